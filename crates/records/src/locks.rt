@@ -1,0 +1,36 @@
+// What the rules ask of the lock.
+ghost use mathlib.Core.Path.{_≡_};
+ghost use Rattle.records.specs.Locks.{isUnheld, heldForMove, heldForMail};
+use crate::AgentNo;
+use crate::Lock;
+use crate::MailNo;
+
+pub fn is_unheld(l: Lock) -> bool
+    ensures { λ r. ⌜ r ≡ isUnheld l ⌝ }
+{
+    match l {
+        Lock::Unheld => true,
+        Lock::ForMove(_) => false,
+        Lock::ForMail(_) => false,
+    }
+}
+
+pub fn held_for_move(l: Lock, a: AgentNo) -> bool
+    ensures { λ r. ⌜ r ≡ heldForMove l a ⌝ }
+{
+    match l {
+        Lock::Unheld => false,
+        Lock::ForMove(b) => b.0 == a.0,
+        Lock::ForMail(_) => false,
+    }
+}
+
+pub fn held_for_mail(l: Lock, m: MailNo) -> bool
+    ensures { λ r. ⌜ r ≡ heldForMail l m ⌝ }
+{
+    match l {
+        Lock::Unheld => false,
+        Lock::ForMove(_) => false,
+        Lock::ForMail(n) => n.0 == m.0,
+    }
+}

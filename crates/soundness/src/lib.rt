@@ -1,0 +1,1 @@
+// Whether a table is sound, asked of its numbers and arrays.

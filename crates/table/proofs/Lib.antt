@@ -1,0 +1,14 @@
+pub mod Twelve
+pub mod CountsIff
+pub mod RoomIff
+pub mod AgentIff
+pub mod MessageIff
+pub mod BookIff
+pub mod SoundIff
+pub mod CodeRows
+pub mod Codes
+pub mod Retry
+pub mod SendCodes
+pub mod Refusals
+pub mod Openings
+pub mod Slips
