@@ -1,9 +1,16 @@
 // What the rules ask of the lock.
 ghost use mathlib.Core.Path.{_≡_};
-ghost use Rattle.records.specs.Locks.{isUnheld, heldForMove, heldForMail};
+ghost use Rattle.records.specs.Locks.{isUnheld, heldForMove, heldForMail, holding};
 use crate::AgentNo;
+use crate::Held;
 use crate::Lock;
 use crate::MailNo;
+
+pub fn holding(l: Lock) -> Held
+    ensures { λ r. ⌜ r ≡ holding l ⌝ }
+{
+    Held { lock: l }
+}
 
 pub fn is_unheld(l: Lock) -> bool
     ensures { λ r. ⌜ r ≡ isUnheld l ⌝ }

@@ -1,7 +1,8 @@
 // What the rules ask of a message's record.
 ghost use mathlib.Core.Path.{_≡_};
-ghost use Rattle.records.specs.Messages.{statusKind, travelsTo};
+ghost use Rattle.records.specs.Messages.{statusKind, travelsTo, standing};
 use crate::SiteNo;
+use crate::Stand;
 use crate::Status;
 
 // The kinds that `status_kind` answers.
@@ -14,6 +15,12 @@ pub const HANDED: u32 = 2;
 pub const CLOSED: u32 = 3;
 
 pub const LOST: u32 = 4;
+
+pub fn standing(s: Status) -> Stand
+    ensures { λ r. ⌜ r ≡ standing s ⌝ }
+{
+    Stand { status: s }
+}
 
 pub fn status_kind(s: Status) -> u32
     ensures { λ r. ⌜ r ≡ statusKind s ⌝ }

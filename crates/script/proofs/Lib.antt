@@ -1,1 +1,10 @@
+pub mod AnswerParts
+pub mod Digits
+pub mod LineEnds
+pub mod LineKinds
+pub mod Outputs
+pub mod Parts
+pub mod Runs
 pub mod SessionS
+pub mod Turns
+pub mod Words

@@ -1,4 +1,11 @@
 // The script: what a line says, and what a script has come to.
+pub mod answers;
+pub mod finding;
+pub mod numerals;
+pub mod reading;
+pub mod running;
+pub mod taking;
+
 use records::Code;
 use table::Step;
 use table::Table;
@@ -16,6 +23,21 @@ pub enum Line {
 pub enum Numeral {
     NoNumber,
     Number(u32, usize),
+}
+
+// The words of the lines of one number.
+enum Word {
+    Sites,
+    Spawning,
+    Enrolling,
+    Greeting,
+    Granting,
+    Leaping,
+    Booking,
+    Settling,
+    Forwarding,
+    Handing,
+    Closing,
 }
 
 // What a script has come to: whether an opening was Done, and the table, which is the one that stands for none until then.

@@ -12,3 +12,11 @@ pub mod SendCodes
 pub mod Refusals
 pub mod Openings
 pub mod Slips
+pub mod Changed
+pub mod Moved
+pub mod Created
+pub mod Delivered
+pub mod Looking
+pub mod Taken
+pub mod Stepping
+pub mod Reading

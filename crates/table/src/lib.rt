@@ -1,18 +1,32 @@
 // The forwarding server's table, and what a step answers.
 ghost use mathlib.Core.Path.{_≡_};
+ghost use Rattle.table.specs.Answers.{done, refuse, repeated};
 ghost use Rattle.table.specs.Holding.{noTable};
 ghost use Rattle.table.specs.Steps.{openOf};
+ghost use Rattle.table.specs.Testing.{soundTest};
+
+mod creations;
+mod deliveries;
+mod moves;
+mod places;
+mod readers;
+mod sending;
+mod sent;
+
 use records::Agent;
 use records::AgentNo;
 use records::Code;
 use records::Held;
+use records::Item;
 use records::Lock;
 use records::MailNo;
 use records::Mapped;
+use records::Message;
 use records::Phase;
 use records::SiteNo;
 use records::Stand;
 use records::Status;
+use soundness::sound_parts;
 
 // The counts come first; past them each array holds the empty filling. A message's five fields stand at its number in five arrays.
 pub struct Table {
@@ -37,6 +51,22 @@ pub struct Answer {
     pub table: Table,
     pub code: Code,
     pub number: u32,
+}
+
+// What a reader finds under a number.
+pub enum AgentRead {
+    NoSuch,
+    There(Agent),
+}
+
+pub enum MessageRead {
+    NoSuch,
+    There(Message),
+}
+
+pub enum ItemRead {
+    NoSuch,
+    There(Item),
 }
 
 // The twelve steps.
@@ -121,6 +151,68 @@ impl Table {
             table: table,
             code: Code::Done,
             number: 0,
+        }
+    }
+
+    // Whether the table is sound. The test takes the numbers and the arrays apart, so that no whole table is handed on.
+    pub fn is_sound(self) -> bool
+        ensures { λ r. ⌜ r ≡ soundTest self ⌝ }
+    {
+        let held = self.held;
+        let lock = held.lock;
+        let agent = self.agent;
+        let sender = self.sender;
+        let number = self.number;
+        let addressee = self.addressee;
+        let value = self.value;
+        let status = self.status;
+        let log = self.log;
+        sound_parts(
+            self.sites,
+            self.agents,
+            self.messages,
+            self.handed,
+            lock,
+            agent,
+            sender,
+            number,
+            addressee,
+            value,
+            status,
+            log,
+        )
+    }
+
+    // Done, with the table as it now stands and the number that the rule names.
+    fn done(self, number: u32) -> Answer
+        ensures { λ r. ⌜ r ≡ done self number ⌝ }
+    {
+        Answer {
+            table: self,
+            code: Code::Done,
+            number: number,
+        }
+    }
+
+    // A refusal hands the table back as it came.
+    fn refused(self, code: Code) -> Answer
+        ensures { λ r. ⌜ r ≡ refuse self code ⌝ }
+    {
+        Answer {
+            table: self,
+            code: code,
+            number: 0,
+        }
+    }
+
+    // A repeat names the message that was taken, and changes nothing.
+    fn repeated(self, m: MailNo) -> Answer
+        ensures { λ r. ⌜ r ≡ repeated self m ⌝ }
+    {
+        Answer {
+            table: self,
+            code: Code::Repeat,
+            number: m.0,
         }
     }
 }

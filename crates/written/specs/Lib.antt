@@ -1,3 +1,6 @@
 pub mod Decimal
+pub mod Placing
 pub mod Text
+pub mod Rows
 pub mod Writing
+pub mod Fitting

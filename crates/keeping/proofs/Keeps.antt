@@ -1,0 +1,103 @@
+-- Every step, refused or not, keeps a sound table sound; and a sound table never comes to lost.
+use Prim.Native.Nat.{ℕ}
+use mathlib.Core.Path.{_≡_, ap, sym, subst}
+use mathlib.Core.Bool.{Bool, true, false}
+use borrow.Author.Tests.{lt-ltb, eq-eqb}
+use mathlib.Core.List.{List, [], _∷_}
+use Rattle.records.specs.declared.SiteNo.{SiteNo}
+use Rattle.records.specs.declared.MailNo.{MailNo}
+use Rattle.records.specs.declared.Status.the-variants.{Out, Handed, Lost}
+use Rattle.records.specs.declared.Code.the-variants.{BadState}
+use Rattle.table.specs.declared.Table.{Table}
+use Rattle.table.specs.declared.Answer.{Answer}
+use Rattle.table.specs.declared.Step.{Step}
+use Rattle.table.specs.declared.Step.the-variants.{Hand}
+use Rattle.table.specs.Holding.{Shaped, IsMessage, siteOf, statusOf, withStatus, withLogged}
+use Rattle.table.specs.Soundness.{Sound}
+use Rattle.table.specs.Testing.{soundTest}
+use Rattle.table.specs.Answers.{done, unless}
+use Rattle.table.specs.Steps.{addresseeOf, ruleOf, stepOf}
+use Rattle.table.specs.Sessions.{lastFrom}
+use Rattle.table.proofs.SoundIff.{sound-to}
+use Rattle.keeping.proofs.OneAgent.{Good}
+use Rattle.keeping.proofs.Outcomes.{Went, spawned, asked, sent, enrolled, greeted, granted, leapt, booked, settled, forwarded, handed, lost, closed, Outcome, stayed, went, outcome}
+use Rattle.keeping.proofs.Moves.{ask-good, grant-good, leap-good, book-good, settle-good}
+use Rattle.keeping.proofs.Enrol.{enrol-good}
+use Rattle.keeping.proofs.Greet.{greet-good}
+use Rattle.keeping.proofs.Spawn.{spawn-good}
+use Rattle.keeping.proofs.Send.{send-good}
+use Rattle.keeping.proofs.Deliveries.{forward-good, close-good}
+use Rattle.keeping.proofs.Hand.{hand-good}
+
+-- a step that went; that an out message misses its addressee is ruled out by soundness
+pub went-good : (t : Table) (s : Step) (n : ℕ) (t′ : Table) → Good t → Went t s n t′ → Good t′
+went-good t s n t′ g (spawned a here free some) = spawn-good t g a here free some
+went-good t s n t′ g (asked a u here site free) = ask-good t g a here u site free
+went-good t s n t′ g (sent a k b v from to up next some) = send-good t g a k b v from to up next some
+went-good t s n t′ g (enrolled b p here born unheld) = enrol-good t g b p here born
+went-good t s n t′ g (greeted b p here turn) = greet-good t g b p here turn
+went-good t s n t′ g (granted a u here turn unheld) = grant-good t g a here u turn unheld
+went-good t s n t′ g (leapt a u here turn) = leap-good t g a here u turn
+went-good t s n t′ g (booked a here turn) = book-good t g a here turn
+went-good t s n t′ g (settled a here turn) = settle-good t g a here turn
+went-good t s n t′ g (forwarded m u here turn unheld known) = forward-good t g m here u turn unheld known
+went-good t s n t′ g (handed m u here turn met) = hand-good t g m here u turn
+went-good t s n t′ g (lost m u here turn missed) = absurd (missed (g .1 .out m here u turn))
+went-good t s n t′ g (closed m here turn) = close-good t g m here turn
+
+outcome-good : (t : Table) (s : Step) (r : Answer) → Good t → Outcome t s r → Good (r .table)
+outcome-good t s r g (stayed same code) = subst Good (sym same) g
+outcome-good t s r g (went code w) = went-good t s (r .number) (r .table) g w
+
+pub keeps : (t : Table) → Shaped t → Sound t → (s : Step) → Shaped (ruleOf t s .table) × Sound (ruleOf t s .table)
+keeps t sh so s = outcome-good t s (ruleOf t s) (sh, so) (outcome t s)
+
+-- whatever the soundness test says
+pub step-keeps : (t : Table) → Shaped t → Sound t → (s : Step) → Shaped (stepOf t s .table) × Sound (stepOf t s .table)
+unfolding stepOf
+step-keeps t sh so s = which (soundTest t)
+  where
+    which : (b : Bool) → Good (unless b BadState t (ruleOf t s) .table)
+    which true = keeps t sh so s
+    which false = (sh, so)
+
+-- and along any sequence of steps
+pub run-keeps : (r : Answer) → Shaped (r .table) → Sound (r .table) → (ss : List Step) → Shaped (lastFrom r ss) × Sound (lastFrom r ss)
+unfolding lastFrom
+run-keeps r sh so [] = (sh, so)
+run-keeps r sh so (s ∷ ss) =
+    let g = step-keeps (r .table) sh so s in
+    run-keeps (stepOf (r .table) s) (g .0) (g .1) ss
+
+-- so no message of a table that is reached is lost
+pub never-lost :
+    (r : Answer)
+    → Shaped (r .table)
+    → Sound (r .table)
+    → (ss : List Step)
+    → (m : MailNo)
+    → IsMessage (lastFrom r ss) m
+    → statusOf (lastFrom r ss) m ≡ Lost
+    → ⊥
+never-lost r sh so ss m h = run-keeps r sh so ss .1 .lost m h
+
+-- and a hand of a message that is out hands it over
+pub hand-meets :
+    (t : Table)
+    → Sound t
+    → (m : MailNo) (s : SiteNo)
+    → IsMessage t m
+    → statusOf t m ≡ Out s
+    → ruleOf t (Hand m) ≡ done (withLogged (withStatus t m Handed) m) 0
+unfolding ruleOf
+hand-meets t so m s here out =
+    simp (
+      lt-ltb (m .0) (t .messages) here,
+      out,
+      eq-eqb (s .0) (siteOf t (addresseeOf t m) .0) (ap (λ (u : SiteNo). u .0) (so .out m here s out)),
+    )
+
+-- A step on a sound table is answered by its rule: never that the table is not sound.
+pub by-rule : (t : Table) → Sound t → (s : Step) → stepOf t s ≡ ruleOf t s
+unfolding stepOf
+by-rule t so s = ap (λ (b : Bool). unless b BadState t (ruleOf t s)) (sound-to t so)

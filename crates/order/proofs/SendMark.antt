@@ -1,0 +1,140 @@
+-- send: a message begins.
+use Prim.Native.Nat.{ℕ, suc, _<_}
+use mathlib.Core.Path.{_≡_, refl, ap, sym, _∙_, subst}
+use mathlib.Core.Logic.{_⊎_, inl, inr}
+use mathlib.Core.List.{List}
+use lib.ListN.{take}
+use lib.Dec.{lit≤}
+use native.Mathlib.Decide.{ℕ-discrete}
+use native.Mathlib.Omega.{arith}
+use Rattle.records.specs.declared.AgentNo.{AgentNo}
+use Rattle.records.specs.declared.MailNo.{MailNo}
+use Rattle.records.specs.declared.Item.{Item}
+use Rattle.records.specs.declared.Message.{Message}
+use Rattle.records.specs.Numbers.{mailNo}
+use Rattle.records.specs.Messages.{itemOf, emptyEntry}
+use Rattle.table.specs.declared.Table.{Table}
+use Rattle.table.specs.Holding.{mostMessages, IsAgent, IsMessage, phaseOf, messageAt, logOf, nextMessage, withNewMessage}
+use Rattle.table.specs.Steps.{sentBy, newMessage}
+use Rattle.keeping.proofs.Places.{Seen, changed, kept, seen-message}
+use Rattle.keeping.proofs.Families.{ChildOf}
+use Rattle.keeping.proofs.Locking.{never}
+use Rattle.keeping.proofs.Send.{send-good}
+use Rattle.keeping.proofs.Letters.{number-below}
+use Rattle.order.specs.Lists.{In}
+use Rattle.order.specs.Marks.{Mark, takes}
+use Rattle.order.specs.Operations.{Operation}
+use Rattle.order.proofs.MarkLaws.{more}
+use Rattle.order.proofs.LinkSteps.{mail-taken}
+use Rattle.order.proofs.BoardLaws.{in-take, board-same}
+use Rattle.order.proofs.Invariant.{Inv, inv-quiet, creations-same, move-same}
+
+module _
+    (start : Table)
+    (ms : List Mark)
+    (t : Table)
+    (order : List Operation)
+    (v : Inv start ms t order)
+    (a : AgentNo)
+    (n : ℕ)
+    (b : AgentNo)
+    (w : ℕ)
+    (from : IsAgent t a)
+    (to : IsAgent t b)
+    (up : (q : AgentNo) → ChildOf (phaseOf t a) q → ⊥)
+    (next : n ≡ suc (sentBy t a))
+    (some : t .messages < mostMessages)
+  where
+    abbrev new : MailNo
+    new = nextMessage t
+
+    abbrev it : Message
+    it = newMessage a n b w
+
+    abbrev after : Table
+    after = withNewMessage t it
+
+    abbrev mark : Mark
+    mark = takes new b (itemOf it)
+
+    abbrev Now : MailNo → Type 0
+    Now k = Seen k new it (messageAt t k) (messageAt after k)
+
+    now : (k : MailNo) → Now k
+    now = seen-message t it (v .good .0) some
+
+    old-message : (k : MailNo) → IsMessage t k → IsMessage after k × (messageAt after k ≡ messageAt t k)
+    old-message k h = told (now k)
+      where
+        told : Now k → IsMessage after k × (messageAt after k ≡ messageAt t k)
+        told (changed q r) = absurd (omega (arith, ap (λ (x : MailNo). x .0) q))
+        told (kept d r) = (omega arith, r)
+
+    either : (k : MailNo) → IsMessage after k → IsMessage t k ⊎ (k ≡ new)
+    either k h = told (ℕ-discrete (k .0) (t .messages))
+      where
+        told : Dec (k .0 ≡ t .messages) → IsMessage t k ⊎ (k ≡ new)
+        told (yes q) = inr (ap mailNo q)
+        told (no d) = inl (omega arith)
+
+    new-message : messageAt after new ≡ it
+    new-message = told (now new)
+      where
+        told : Now new → messageAt after new ≡ it
+        told (changed q r) = r
+        told (kept d r) = absurd (d refl)
+
+    -- its number is above those of its sender's messages so far
+    unknown : (k : MailNo) → IsMessage t k → itemOf (messageAt t k) ≡ itemOf it → ⊥
+    unknown k h e =
+        omega (
+          arith,
+          number-below t (v .good .1) k h,
+          ap (λ (y : Item). y .number) e,
+          ap (λ (y : Item). sentBy t (y .sender)) e,
+          next,
+        )
+
+    logged : (k : MailNo) → In k (logOf t) → IsMessage t k
+    logged k h =
+        let at = in-take (t .handed) (t .log) emptyEntry k h in
+        subst (IsMessage t) (at .2) (v .good .1 .log .only (at .0) (at .1) .0)
+
+    pub send-on : Inv start (more ms mark) after order
+    send-on =
+        inv-quiet
+        start
+        ms
+        mark
+        t
+        after
+        order
+        v
+        (lit≤ tt)
+        (record {
+          create = λ p c e. absurd (never (cc));
+          take = λ m x y e k h.
+              let here : new ≡ m = cc in
+              let same : itemOf it ≡ y = cc in (
+                λ q. omega (arith, ap (λ (z : MailNo). z .0) q, ap (λ (z : MailNo). z .0) here),
+                λ q. unknown k h (q ∙ sym same),
+              );
+        })
+        (send-good t (v .good) a n b w from to up next some)
+        (creations-same start ms mark t after (v .creations) (omega arith) (λ e. omega arith) (λ e. omega arith))
+        (λ c. move-same start ms mark t c (v .moves) refl (λ e. never (cc)) (λ e. never (cc)))
+        (mail-taken
+        start
+        ms
+        mark
+        t
+        after
+        new
+        (v .mail)
+        old-message
+        either
+        (omega arith)
+        (ap (λ (y : Message). takes new (y .addressee) (itemOf y)) (sym new-message)))
+        (board-same t after refl (λ c. refl) refl (λ k h.
+        let same = old-message k (logged k h) in
+        (ap (λ (y : Message). y .addressee) (same .1), ap itemOf (same .1))))

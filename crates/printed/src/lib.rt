@@ -1,0 +1,1 @@
+// What the script program prints, from the steps' keeping of soundness: laws alone, no code.

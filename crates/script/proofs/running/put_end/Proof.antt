@@ -1,0 +1,42 @@
+-- `script::running::put_end` meets its contract.
+use Rattle.script.specs.Running.{runEnd}
+use Rattle.script.proofs.Runs.{came-same, came-put}
+use Rattle.script.proofs.Turns.{when-true, when-false}
+use borrow.Author.Needs.{needs}
+use Rattle.script.proofs.running.put_end.Statement.{statement}
+use Rattle.script.proofs.running.put_end.Tie as tie
+
+put-table-requires : tie.Need-put-table-requires
+put-table-requires c κs = search needs
+
+same-length : tie.Need-same-length
+same-length c = search needs
+
+returns : tie.Need-returns
+unfolding runEnd
+returns c = came-same (when-true (c .before .before .before .before .before .before .before .args .desk .opened) _ _ (c .before .before .before .before .before .if1 .taken)) (c .before .before .put-table .ensures)
+
+slice-aggregate-put-word : tie.Need-slice-aggregate-put-word
+slice-aggregate-put-word c = search needs
+
+put-word-requires : tie.Need-put-word-requires
+put-word-requires c κs = search needs
+
+same-length-2 : tie.Need-same-length-2
+same-length-2 c = search needs
+
+returns-2 : tie.Need-returns-2
+unfolding runEnd
+returns-2 c = came-same (when-false (c .before .before .before .before .before .before .before .args .desk .opened) _ _ (c .before .before .before .before .before .if1 .left)) (came-put (c .before .before .put-word .ensures))
+
+pub put-end-spec : {M : Type 1} → statement M
+put-end-spec =
+    tie.close
+    (tie.spec
+    put-table-requires
+    same-length
+    returns
+    slice-aggregate-put-word
+    put-word-requires
+    same-length-2
+    returns-2)

@@ -1,0 +1,43 @@
+-- `script::running::run` meets its contract.
+use borrow.Author.Needs.{needs}
+use borrow.Author.Tests.{le-leb, lt-leb}
+use Rattle.script.specs.Running.{runOf}
+use Rattle.script.proofs.Runs.{came-same, came-put}
+use Rattle.script.proofs.Turns.{when-true, when-false}
+use Rattle.script.proofs.running.run.Statement.{statement}
+use Rattle.script.proofs.running.run.Tie as tie
+
+slice-aggregate-put-word : tie.Need-slice-aggregate-put-word
+slice-aggregate-put-word c = search needs
+
+put-word-requires : tie.Need-put-word-requires
+put-word-requires c κs = search needs
+
+same-length : tie.Need-same-length
+same-length c = search needs
+
+returns : tie.Need-returns
+unfolding runOf
+returns c = came-same (when-false _ _ _ (lt-leb _ _ (c .before .before .before .before .before .if1 .taken))) (came-put (c .before .before .put-word .ensures))
+
+run-lines-requires : tie.Need-run-lines-requires
+run-lines-requires c κs = search needs
+
+same-length-2 : tie.Need-same-length-2
+same-length-2 c = search needs
+
+returns-2 : tie.Need-returns-2
+unfolding runOf
+returns-2 c = came-same (when-true _ _ _ (le-leb _ _ (c .before .before .before .before .if1 .left))) (c .before .before .run-lines .ensures)
+
+pub run-spec : {M : Type 1} → statement M
+run-spec =
+    tie.close
+    (tie.spec
+    slice-aggregate-put-word
+    put-word-requires
+    same-length
+    returns
+    run-lines-requires
+    same-length-2
+    returns-2)

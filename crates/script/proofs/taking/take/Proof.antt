@@ -1,0 +1,41 @@
+-- `script::taking::take` meets its contract.
+use mathlib.Core.Path.{ap, _∙_}
+use borrow.Author.Tests.{not-true, not-false}
+use Rattle.script.specs.Program.{steppedBy}
+use Rattle.script.proofs.Turns.{no-step, not-open, steps}
+use borrow.Author.Needs.{needs}
+use Rattle.script.proofs.taking.take.Statement.{statement}
+use Rattle.script.proofs.taking.take.Tie as tie
+
+enum-known-line : tie.Need-enum-known-line
+enum-known-line c = search needs
+
+take-opening-requires : tie.Need-take-opening-requires
+take-opening-requires c κs = search needs
+
+returns : tie.Need-returns
+returns c = c .take-opening .ensures ∙ no-step (c .before .before .args .desk) (c .before .before .args .line) (c .before .match .keys2)
+
+turned-away-requires : tie.Need-turned-away-requires
+turned-away-requires c κs = search needs
+
+returns-2 : tie.Need-returns-2
+returns-2 c = c .turned-away .ensures ∙ not-open (c .before .before .before .before .before .before .args .desk) (c .before .before .before .before .line .given .0 .0) (c .before .before .before .before .line .given .1) (not-true (c .before .before .before .before .before .before .args .desk .opened) (c .before .if1 .taken))
+
+step-on-requires : tie.Need-step-on-requires
+step-on-requires c κs = search needs
+
+returns-3 : tie.Need-returns-3
+returns-3 c = ap steppedBy (c .before .step-on .ensures) ∙ steps (c .before .before .before .before .before .before .before .before .args .desk) (c .before .before .before .before .before .before .line .given .0 .0) (c .before .before .before .before .before .before .line .given .1) (not-false (c .before .before .before .before .before .before .before .before .args .desk .opened) (c .before .before .before .if1 .left))
+
+pub take-spec : {M : Type 1} → statement M
+take-spec =
+    tie.close
+    (tie.spec
+    enum-known-line
+    take-opening-requires
+    returns
+    turned-away-requires
+    returns-2
+    step-on-requires
+    returns-3)

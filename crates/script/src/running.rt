@@ -1,0 +1,84 @@
+// The whole script: from the input's bytes to the output's, in lent buffers.
+ghost use Prim.Native.Nat.{_<_, _≤_};
+ghost use mathlib.Core.Path.{_≡_};
+ghost use lib.ListN.{length};
+ghost use Rattle.table.specs.Holding.{noTable};
+ghost use Rattle.script.specs.Program.{noDesk};
+ghost use Rattle.script.specs.Lines.{linesOf};
+ghost use Rattle.script.specs.Running.{Came, from, atFront, tableBehind, runEnd, runLines, runOf};
+use crate::Desk;
+use crate::answers::put_answer;
+use crate::finding::first_line;
+use crate::finding::line_taken;
+use crate::reading::read_line;
+use crate::taking::take;
+use table::Table;
+use written::place::put_word;
+use written::write;
+
+const MOST_INPUT: usize = 65536;
+
+// Before any opening was Done.
+fn no_desk() -> Desk
+    ensures { λ r. ⌜ r ≡ noDesk ⌝ }
+{
+    let table = Table::none();
+    Desk {
+        opened: false,
+        table: table,
+    }
+}
+
+// The written table from a place on.
+fn put_table(output: &mut [u8], at: usize, table: Table) -> usize
+    ensures { λ r. ⌜ Came (tableBehind (from at (now (output .entry))) table) r (now (output .exit)) ⌝ }
+{
+    if output.len() < at {
+        return at;
+    }
+    let answer = write(table, &mut output[at..]);
+    at + answer.length
+}
+
+// The end of a run.
+fn put_end(output: &mut [u8], at: usize, desk: Desk) -> usize
+    requires { ⌜ at < 4000000000 ⌝ }
+    ensures { λ r. ⌜ Came (runEnd (from at (now (output .entry))) desk) r (now (output .exit)) ⌝ }
+{
+    if desk.opened {
+        let table = desk.table;
+        return put_table(output, at, table);
+    }
+    put_word(output, at, b"state=none\n")
+}
+
+// An answer for each line, and then the end.
+fn run_lines(input: &[u8], output: &mut [u8]) -> usize
+    requires { ⌜ length (now input) ≤ 65536 ⌝ }
+    ensures { λ r. ⌜ Came (runLines (atFront (now (output .entry))) noDesk 1 (linesOf (now (input .entry)))) r (now (output .exit)) ⌝ }
+{
+    let mut rest = input;
+    let mut desk = no_desk();
+    let mut k: u32 = 0;
+    let mut at: usize = 0;
+    while 0 < rest.len() {
+        k += 1;
+        let turn = take(desk, read_line(first_line(rest)));
+        let code = turn.code;
+        at = put_answer(output, at, k, code, turn.number);
+        desk = turn.desk;
+        let taken = line_taken(rest);
+        rest = &rest[taken..];
+    }
+    put_end(output, at, desk)
+}
+
+// The output of a script, at the front of a buffer as far as it has room; answers how many bytes were put there.
+pub fn run(input: &[u8], output: &mut [u8]) -> usize
+    ensures { λ r. ⌜ Came (runOf (now (input .entry)) (now (output .entry))) r (now (output .exit)) ⌝ }
+{
+    if MOST_INPUT < input.len() {
+        return put_word(output, 0, b"state=toolong\n");
+    }
+    run_lines(input, output)
+}

@@ -1,0 +1,99 @@
+// One line against what the script has come to.
+ghost use mathlib.Core.Path.{_≡_};
+ghost use Rattle.table.specs.Steps.{openOf, stepOf};
+ghost use Rattle.script.specs.Program.{takeLine, turnedAway, openedBy};
+ghost use Rattle.script.specs.Taking.{takeOpening};
+use crate::Desk;
+use crate::Line;
+use crate::Turn;
+use records::Code;
+use records::codes::code_number;
+use table::Answer;
+use table::Step;
+use table::Table;
+
+// A line that is refused before it comes to the table.
+fn turned_away(desk: Desk, code: Code) -> Turn
+    ensures { λ r. ⌜ r ≡ turnedAway desk code ⌝ }
+{
+    Turn {
+        desk: desk,
+        code: code,
+        number: 0,
+    }
+}
+
+// An opening, which opens the script where it is Done.
+fn opening(sites: u32) -> Turn
+    ensures { λ r. ⌜ r ≡ openedBy (openOf sites) ⌝ }
+{
+    let answer = Table::open(sites);
+    let code = answer.code;
+    let table = answer.table;
+    let shown = code_number(code);
+    Turn {
+        desk: Desk {
+            opened: shown == 0,
+            table: table,
+        },
+        code: code,
+        number: answer.number,
+    }
+}
+
+// A line that is no step: an opening goes on, and a line that is not in the grammar answers 24.
+fn take_opening(desk: Desk, line: Line) -> Turn
+    ensures { λ r. ⌜ r ≡ takeOpening desk line ⌝ }
+{
+    let Line::Opening(sites) = line else {
+        return turned_away(desk, Code::BadLine);
+    };
+    if desk.opened {
+        return turned_away(desk, Code::AlreadyOpen);
+    }
+    opening(sites)
+}
+
+// Each step by its method.
+fn step_on(table: Table, step: Step) -> Answer
+    ensures { λ r. ⌜ r ≡ stepOf table step ⌝ }
+{
+    match step {
+        Step::Spawn(a) => table.spawn(a),
+        Step::Ask(a, u) => table.ask(a, u),
+        Step::Send(a, n, b, v) => table.send(a, n, b, v),
+        Step::Enrol(b) => table.enrol(b),
+        Step::Greet(b) => table.greet(b),
+        Step::Grant(a) => table.grant(a),
+        Step::Leap(a) => table.leap(a),
+        Step::Book(a) => table.book(a),
+        Step::Settle(a) => table.settle(a),
+        Step::Forward(m) => table.forward(m),
+        Step::Hand(m) => table.hand(m),
+        Step::Close(m) => table.close(m),
+    }
+}
+
+// One line: a step goes on, and a line that is none is an opening or not in the grammar.
+pub fn take(desk: Desk, line: Line) -> Turn
+    ensures { λ r. ⌜ r ≡ takeLine desk line ⌝ }
+{
+    let Line::Take(step) = line else {
+        return take_opening(desk, line);
+    };
+    if !desk.opened {
+        return turned_away(desk, Code::NotOpen);
+    }
+    let before = desk.table;
+    let answer = step_on(before, step);
+    let after = answer.table;
+    let code = answer.code;
+    Turn {
+        desk: Desk {
+            opened: true,
+            table: after,
+        },
+        code: code,
+        number: answer.number,
+    }
+}

@@ -1,0 +1,35 @@
+-- How the test of a list, or of the places below a number, goes on by one place: what the loops' invariants rest on.
+use Prim.Native.Nat.{ℕ, suc, _+_, _≤_, _<_}
+use mathlib.Core.Bool.{Bool, true, false, _&&_, and-assoc, and-true}
+use mathlib.Core.List.{List}
+use mathlib.Core.Path.{_≡_, refl, sym, _∙_}
+use native.Mathlib.Numerals.{add-one}
+use native.Mathlib.Omega.{arith}
+use lib.ListN.{length, getD, drop, drop-of-length-le}
+use lib.Seq.{drop-cons}
+use Rattle.records.specs.Places.{allOf, allBelow}
+
+-- a test passes or it does not
+pub by-test {ℓ} : (t : Bool) {P : Type ℓ} → (t ≡ true → P) → (t ≡ false → P) → P
+by-test true passed failed = passed refl
+by-test false passed failed = failed refl
+
+-- the flag of a loop over a list's room takes in one more element
+pub room-on {ℓ} : {A : Type ℓ} (f : A → Bool) (l : List A) (d : A) (n i : ℕ) (fine next : Bool) → i < length l → allOf f (drop n l) ≡ (fine && allOf f (drop i l)) → next ≡ (fine && f (getD l i d)) → allOf f (drop n l) ≡ (next && allOf f (drop (i + 1) l))
+unfolding allOf
+room-on f l d n i fine next h so step =
+    so ∙ rw (step, add-one, drop-cons l i d) (sym (and-assoc fine (f (getD l i d)) (allOf f (drop (suc i) l))))
+
+-- at the end of the list the flag is the whole answer
+pub room-end {ℓ} : {A : Type ℓ} (f : A → Bool) (l : List A) (n i : ℕ) (fine : Bool) → length l ≤ i → allOf f (drop n l) ≡ (fine && allOf f (drop i l)) → fine ≡ allOf f (drop n l)
+unfolding allOf
+room-end f l n i fine h so = sym (so ∙ rw (drop-of-length-le l h) (and-true fine))
+
+-- the flag of a loop over places takes in one more place
+pub below-on : (f : ℕ → Bool) (i : ℕ) (fine found next : Bool) → fine ≡ allBelow i f → found ≡ f i → next ≡ (found && fine) → next ≡ allBelow (i + 1) f
+unfolding allBelow
+below-on f i fine found next so this step = rw (step, this, so, add-one)
+
+-- where the places are used up the flag is the whole answer
+pub below-end : (f : ℕ → Bool) (n i : ℕ) (fine : Bool) → i ≤ n → n ≤ i → fine ≡ allBelow i f → fine ≡ allBelow n f
+below-end f n i fine low high so = let same : i ≡ n = omega arith in rw same at so

@@ -1,0 +1,69 @@
+-- `soundness::rooms::party_room` meets its contract.
+use Rattle.soundness.proofs.rooms.party_room.Statement.{statement}
+use Rattle.soundness.proofs.rooms.party_room.Tie as tie
+use borrow.Author.Needs.{needs}
+use Prim.Native.Nat.{_+_, _-_, _<_}
+use mathlib.Core.Bool.{Bool, _&&_}
+use mathlib.Core.Path.{_≡_, refl}
+use lib.Dec.{eqb}
+use lib.ListN.{getD, drop}
+use Rattle.records.specs.Numbers.{agentNo}
+use Rattle.records.specs.declared.AgentNo.{AgentNo}
+use Rattle.records.specs.Places.{allOf}
+use Rattle.soundness.specs.Tests.{partyRoom}
+use Rattle.soundness.proofs.Laws.{room-on, room-end}
+
+abbrev test : AgentNo → Bool
+test x = eqb (x .0) 0
+
+abbrev Inv-loop : tie.InvT-loop
+Inv-loop n party fine₀ i₀ fine i = allOf test (drop n party) ≡ (fine && allOf test (drop i party))
+
+abbrev μ-loop : tie.MeasureT-loop
+μ-loop n party fine₀ i₀ fine i = 512 - i
+
+loop-holds : tie.Need-loop-holds Inv-loop μ-loop
+loop-holds c = refl
+
+mul-one : tie.Need-mul-one Inv-loop μ-loop
+mul-one c = search needs
+
+array-copy-out-one : tie.Need-array-copy-out-one Inv-loop μ-loop
+array-copy-out-one c = search needs
+
+both-requires : tie.Need-both-requires Inv-loop μ-loop
+both-requires c κs = search needs
+
+add-i : tie.Need-add-i Inv-loop μ-loop
+add-i c = search needs
+
+loop-less : tie.Need-loop-less Inv-loop μ-loop
+loop-less c = search needs
+
+goes-on : (l : tie.At-loop Inv-loop μ-loop) (next : Bool) → l .loop .i < 512 → next ≡ (l .loop .fine && test (getD (l .before .args .t2) (l .loop .i) (agentNo 0))) → allOf test (drop (l .before .args .n) (l .before .args .t2)) ≡ (next && allOf test (drop (l .loop .i + 1) (l .before .args .t2)))
+goes-on l next more step =
+    room-on test (l .before .args .t2) (agentNo 0) (l .before .args .n) (l .loop .i) (l .loop .fine) next (search needs)
+    (l .loop .inv)
+    step
+
+loop-again : tie.Need-loop-again Inv-loop μ-loop
+loop-again c = goes-on (c .before .before .before .before) (c .both .result) (search needs) (cc)
+
+returns : tie.Need-returns Inv-loop μ-loop
+unfolding partyRoom
+returns c = room-end test (c .before .before .args .t2) (c .before .before .args .n) (c .before .loop .i) (c .before .loop .fine) (search needs) (c .before .loop .inv)
+
+pub party-room-spec : {M : Type 1} → statement M
+party-room-spec =
+    tie.close
+    (tie.spec
+    Inv-loop
+    μ-loop
+    loop-holds
+    mul-one
+    array-copy-out-one
+    both-requires
+    add-i
+    loop-less
+    loop-again
+    returns)

@@ -1,0 +1,31 @@
+-- A step is its rule behind the soundness test, and a table that has passed the test has counts within its arrays.
+use mathlib.Core.Path.{_≡_, refl, _∙_, sym}
+use mathlib.Core.Bool.{Bool, true, false, _&&_}
+use Rattle.records.specs.declared.Code.the-variants.{BadState}
+use Rattle.soundness.specs.Tests.{partsSound}
+use Rattle.soundness.proofs.Limits.{Limits, limits}
+use Rattle.table.specs.declared.Table.{Table}
+use Rattle.table.specs.declared.Answer.{Answer}
+use Rattle.table.specs.declared.Step.{Step}
+use Rattle.table.specs.Testing.{soundTest}
+use Rattle.table.specs.Fitting.{FitIfSound}
+use Rattle.table.specs.Answers.{unless}
+use Rattle.table.specs.Steps.{ruleOf, stepOf}
+
+pub step-by : (t : Table) (s : Step) {sound : Bool} {r : Answer} → sound ≡ soundTest t → r ≡ unless sound BadState t (ruleOf t s) → r ≡ stepOf t s
+unfolding stepOf
+step-by t s tested answer = rw tested at answer
+
+-- the first part of the test is the counts'
+counts-pass : (a b : Bool) → (a && b) ≡ true → a ≡ true
+counts-pass true b h = refl
+counts-pass false b h = h
+
+test-limits : (t : Table) → soundTest t ≡ true → Limits (t .agents) (t .messages) (t .handed)
+unfolding soundTest partsSound
+test-limits t passed = limits (t .sites) (t .agents) (t .messages) (t .handed) (counts-pass _ _ passed)
+
+pub test-fits : (t : Table) {sound : Bool} → sound ≡ soundTest t → FitIfSound sound t
+test-fits t tested passed =
+    let within : Limits (t .agents) (t .messages) (t .handed) = test-limits t (sym tested ∙ passed) in
+    record { messages = within .messages-fit; handed = within .handed-fit }

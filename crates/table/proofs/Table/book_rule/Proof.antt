@@ -1,0 +1,71 @@
+-- `Table::book_rule` meets its contract: each return goes by the tests that led to it.
+use borrow.Author.Tests.{not-true, not-false, lt-ltb, le-ltb, ne-eqb}
+use Rattle.table.proofs.Moved.{book-done}
+use Rattle.table.specs.Steps.{bookRule}
+use borrow.Author.Needs.{needs}
+use Rattle.table.proofs.Table.book_rule.Statement.{statement}
+use Rattle.table.proofs.Table.book_rule.Tie as tie
+
+refused-requires : tie.Need-refused-requires
+refused-requires c κs = search needs
+
+returns : tie.Need-returns
+unfolding bookRule
+returns c = simp (not-true (c .before .before .args .sound) (c .before .if1 .taken), c .refused .ensures)
+
+refused-requires-2 : tie.Need-refused-requires-2
+refused-requires-2 c κs = search needs
+
+returns-2 : tie.Need-returns-2
+unfolding bookRule
+returns-2 c = simp (not-false (c .before .before .before .before .args .sound) (c .before .before .before .if1 .left), le-ltb _ _ (c .before .if2 .taken), c .refused2 .ensures)
+
+agent-in-requires : tie.Need-agent-in-requires
+agent-in-requires c κs = search needs
+
+phase-kind-requires : tie.Need-phase-kind-requires
+phase-kind-requires c κs = search needs
+
+refused-requires-3 : tie.Need-refused-requires-3
+refused-requires-3 c κs = search needs
+
+returns-3 : tie.Need-returns-3
+unfolding bookRule
+returns-3 c = simp (not-false (c .before .before .before .before .before .before .before .before .args .sound) (c .before .before .before .before .before .before .before .if1 .left), lt-ltb _ _ (c .before .before .before .before .before .if2 .left), ← c .before .before .before .agent-in .ensures, ← c .before .before .phase-kind .ensures, ne-eqb _ _ (c .before .if3 .taken), c .refused3 .ensures)
+
+with-phase-requires : tie.Need-with-phase-requires
+with-phase-requires c κs = search needs
+
+mapped-here-requires : tie.Need-mapped-here-requires
+mapped-here-requires c κs = search needs
+
+agent-put-requires : tie.Need-agent-put-requires
+agent-put-requires c κs = search needs
+
+holding-requires : tie.Need-holding-requires
+holding-requires c κs = search needs
+
+done-requires : tie.Need-done-requires
+done-requires c κs = search needs
+
+returns-4 : tie.Need-returns-4
+returns-4 c = book-done (c .before .before .before .before .before .before .before .before .before .before .before .before .args .self) (c .before .before .before .before .before .before .before .before .before .before .before .before .args .a) (not-false (c .before .before .before .before .before .before .before .before .before .before .before .before .args .sound) (c .before .before .before .before .before .before .before .before .before .before .before .if1 .left)) (c .before .before .before .before .before .before .before .before .before .if2 .left) (c .before .before .before .before .before .before .before .agent-in .ensures) (c .before .before .before .before .before .before .phase-kind .ensures) (c .before .before .before .before .before .if3 .left) (c .before .before .before .before .with-phase .ensures) (c .before .before .before .mapped-here .ensures) (c .before .before .agent-put .ensures) (c .before .holding .ensures) (c .done .ensures)
+
+pub book-rule-spec : {M : Type 1} → statement M
+book-rule-spec =
+    tie.close
+    (tie.spec
+    refused-requires
+    returns
+    refused-requires-2
+    returns-2
+    agent-in-requires
+    phase-kind-requires
+    refused-requires-3
+    returns-3
+    with-phase-requires
+    mapped-here-requires
+    agent-put-requires
+    holding-requires
+    done-requires
+    returns-4)

@@ -1,0 +1,82 @@
+// The rows of the agents, of the messages and of the log, each from 0 upward.
+ghost use Prim.Native.Nat.{_+_, _*_, _<_, _≤_};
+ghost use Rattle.written.specs.Placing.{Put};
+ghost use Rattle.written.specs.Text.{rowsBelow};
+ghost use Rattle.written.specs.Rows.{agentRow, messageRow, logRow};
+use crate::lines::put_agent;
+use crate::lines::put_entry;
+use crate::lines::put_message;
+use records::Agent;
+use records::AgentNo;
+use records::MailNo;
+use records::Message;
+use records::Stand;
+
+pub(crate) fn put_agents(buf: &mut [u8], at: usize, agents: u32, agent: [Agent; 64]) -> usize
+    requires { ⌜ at < 100000 ⌝ }
+    requires { ⌜ agents ≤ 64 ⌝ }
+    ensures { λ r. ⌜ Put (rowsBelow agents (agentRow agent)) (now (buf .entry)) (now (buf .exit)) at r × (r ≤ at + 64 * agents) ⌝ }
+{
+    let mut next = at;
+    let mut i: u32 = 0;
+    while i < agents {
+        let place = i as usize;
+        let one = agent[place];
+        next = put_agent(buf, next, i, one);
+        i += 1;
+    }
+    next
+}
+
+pub(crate) fn put_messages(
+    buf: &mut [u8],
+    at: usize,
+    messages: u32,
+    sender: [AgentNo; 512],
+    number: [u32; 512],
+    addressee: [AgentNo; 512],
+    value: [u32; 512],
+    status: [Stand; 512],
+) -> usize
+    requires { ⌜ at < 200000 ⌝ }
+    requires { ⌜ messages ≤ 512 ⌝ }
+    ensures { λ r. ⌜ Put (rowsBelow messages (messageRow sender number addressee value status)) (now (buf .entry)) (now (buf .exit)) at r × (r ≤ at + 86 * messages) ⌝ }
+{
+    let mut next = at;
+    let mut i: u32 = 0;
+    while i < messages {
+        let place = i as usize;
+        let from = sender[place];
+        let count = number[place];
+        let to = addressee[place];
+        let said = value[place];
+        let stand = status[place];
+        let now_at = stand.status;
+        let one = Message {
+            sender: from,
+            number: count,
+            addressee: to,
+            value: said,
+            status: now_at,
+        };
+        next = put_message(buf, next, i, one);
+        i += 1;
+    }
+    next
+}
+
+pub(crate) fn put_log(buf: &mut [u8], at: usize, handed: u32, log: [MailNo; 512]) -> usize
+    requires { ⌜ at < 300000 ⌝ }
+    requires { ⌜ handed ≤ 512 ⌝ }
+    ensures { λ r. ⌜ Put (rowsBelow handed (logRow log)) (now (buf .entry)) (now (buf .exit)) at r × (r ≤ at + 32 * handed) ⌝ }
+{
+    let mut next = at;
+    let mut i: u32 = 0;
+    while i < handed {
+        let place = i as usize;
+        let m = log[place];
+        next = put_entry(buf, next, i, m);
+        i += 1;
+    }
+    next
+}
