@@ -30,3 +30,14 @@ pub fn with_messages(first: Table) -> Table {
     }
     t
 }
+
+// All 512 messages of one agent to itself, queued.
+pub fn with_own_messages(first: Table) -> Table {
+    let mut t = first;
+    let mut m: u32 = 0;
+    while m < 512 {
+        t = t.send(AgentNo(0), m + 1, AgentNo(0), m).table;
+        m += 1;
+    }
+    t
+}

@@ -50,6 +50,7 @@ fn row(t: Table, kind: u32, x: u32, y: u32, z: u32, w: u32) -> Answer {
         12 => mail_step(t, kind, MailNo(x)),
         13 => given(filling::with_agents(t)),
         14 => given(filling::with_messages(t)),
+        16 => given(filling::with_own_messages(t)),
         15 => given(Table::none()),
         _ => agent_step(t, kind, AgentNo(x), SiteNo(y)),
     }
@@ -65,7 +66,7 @@ fn told(code: Code, number: u32) {
 fn main() {
     let mut t = Table::none();
     let mut i = 0;
-    while i < 106 {
+    while i < 115 {
         let r = row(
             t,
             plan::KIND[i],

@@ -1,5 +1,5 @@
 // The plan: what is done, row by row, and its numbers. Session S comes first, then each refusal and the pairs that hold at once, then the limits.
-pub const KIND: [u32; 106] = [
+pub const KIND: [u32; 115] = [
     0,
     1,
     4,
@@ -69,6 +69,8 @@ pub const KIND: [u32; 106] = [
     4,
     6,
     6,
+    4,
+    6,
     10,
     10,
     10,
@@ -106,9 +108,16 @@ pub const KIND: [u32; 106] = [
     3,
     12,
     12,
+    0,
+    16,
+    1,
+    3,
+    3,
+    3,
+    3,
 ];
 
-pub const FIRST: [u32; 106] = [
+pub const FIRST: [u32; 115] = [
     3,
     0,
     1,
@@ -178,6 +187,8 @@ pub const FIRST: [u32; 106] = [
     1,
     1,
     0,
+    9,
+    9,
     0,
     1,
     9,
@@ -215,9 +226,16 @@ pub const FIRST: [u32; 106] = [
     0,
     511,
     512,
+    2,
+    0,
+    0,
+    1,
+    0,
+    0,
+    1,
 ];
 
-pub const SECOND: [u32; 106] = [
+pub const SECOND: [u32; 115] = [
     0,
     0,
     0,
@@ -309,6 +327,8 @@ pub const SECOND: [u32; 106] = [
     0,
     0,
     0,
+    0,
+    0,
     1,
     0,
     0,
@@ -324,9 +344,16 @@ pub const SECOND: [u32; 106] = [
     9,
     0,
     0,
+    0,
+    0,
+    0,
+    1,
+    513,
+    512,
+    9,
 ];
 
-pub const THIRD: [u32; 106] = [
+pub const THIRD: [u32; 115] = [
     0,
     0,
     0,
@@ -425,6 +452,8 @@ pub const THIRD: [u32; 106] = [
     0,
     0,
     0,
+    0,
+    0,
     1,
     1,
     1,
@@ -433,9 +462,16 @@ pub const THIRD: [u32; 106] = [
     64,
     0,
     0,
+    0,
+    0,
+    0,
+    0,
+    0,
+    0,
+    9,
 ];
 
-pub const FOURTH: [u32; 106] = [
+pub const FOURTH: [u32; 115] = [
     0,
     0,
     0,
@@ -534,6 +570,8 @@ pub const FOURTH: [u32; 106] = [
     0,
     0,
     0,
+    0,
+    0,
     5,
     0,
     1,
@@ -542,4 +580,11 @@ pub const FOURTH: [u32; 106] = [
     1,
     0,
     0,
+    0,
+    0,
+    0,
+    5,
+    5,
+    511,
+    5,
 ];

@@ -5,10 +5,10 @@ use Rattle.table_runs.proofs.main.Statement.{statement}
 use Rattle.table_runs.proofs.main.Tie as tie
 
 abbrev Inv-loop : tie.InvT-loop
-Inv-loop t₀ i₀ t i = i ≤ 106
+Inv-loop t₀ i₀ t i = i ≤ 115
 
 abbrev μ-loop : tie.MeasureT-loop
-μ-loop t₀ i₀ t i = 106 - i
+μ-loop t₀ i₀ t i = 115 - i
 
 none-requires : tie.Need-none-requires Inv-loop μ-loop
 none-requires c κs = search needs
