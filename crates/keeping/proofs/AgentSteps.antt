@@ -1,7 +1,7 @@
 -- A step that changes agents and the lock, and nothing of messages and log: what is left to show for the next table to be sound.
 use Prim.Native.Nat.{ℕ, _<_, _≤_}
-use mathlib.Core.Path.{_≡_, ap, sym, _∙_, subst}
-use mathlib.Core.Logic.{_⊎_, inl, inr, _↔_, Iff·rfl}
+use mathlib.Core.Path.{_≡_, sym, _∙_, subst}
+use mathlib.Core.Logic.{_⊎_, _↔_, Iff·rfl}
 use mathlib.Core.Bool.{false, true≢false}
 use mathlib.Core.List.{List}
 use native.Mathlib.Omega.{arith}
@@ -16,9 +16,10 @@ use Rattle.records.specs.declared.Mapped.the-variants.{Nowhere, At}
 use Rattle.records.specs.declared.Status.the-variants.{Out}
 use Rattle.records.specs.Numbers.{agentNo}
 use Rattle.records.specs.Agents.{emptyAgent, isMoving, withPhase}
+use Rattle.records.proofs.ReaderLaws.{is-moving}
 use Rattle.soundness.specs.Tests.{agentIn}
 use Rattle.table.specs.declared.Table.{Table}
-use Rattle.table.specs.Holding.{mostAgents, IsAgent, IsMessage, agentAt, siteOf, messageAt, statusOf}
+use Rattle.table.specs.Holding.{mostAgents, IsAgent, IsMessage, agentAt, siteOf, messageAt, statusOf, withAgents, withHeld}
 use Rattle.table.specs.Soundness.{Sound, FamiliesMatch, LockRight, Child, Moving}
 use Rattle.keeping.proofs.Families.{ChildOf}
 use Rattle.keeping.proofs.Locking.{never}
@@ -28,8 +29,7 @@ abbrev pub MovingIn : Phase → Type 0
 MovingIn p = ((u : SiteNo) × (p ≡ Granted u)) ⊎ (p ≡ Landed)
 
 pub not-moving : (p : Phase) → isMoving p ≡ false → MovingIn p → ⊥
-not-moving p e (inl h) = true≢false (sym (ap isMoving (h .1)) ∙ e)
-not-moving p e (inr h) = true≢false (sym (ap isMoving h) ∙ e)
+not-moving p e h = true≢false (sym (is-moving p h) ∙ e)
 
 pub moving-as : (x z : Agent) → x ≡ z → MovingIn (x .phase) ↔ MovingIn (z .phase)
 moving-as x z e = subst (λ (w : Agent). MovingIn (x .phase) ↔ MovingIn (w .phase)) e Iff·rfl
@@ -75,22 +75,8 @@ alone-mapped sites x p f m n asked granted =
     }
 
 -- the same table with other agents and another lock
-abbrev pub withAgents : Table → ℕ → List Agent → Held → Table
-withAgents t n l h =
-    record {
-      sites = t .sites;
-      agents = n;
-      messages = t .messages;
-      handed = t .handed;
-      held = h;
-      agent = l;
-      sender = t .sender;
-      number = t .number;
-      addressee = t .addressee;
-      value = t .value;
-      status = t .status;
-      log = t .log;
-    }
+abbrev pub withAgentsHeld : Table → ℕ → List Agent → Held → Table
+withAgentsHeld t n l h = withHeld (withAgents t n l) h
 
 -- what is to be shown of the other agents and the other lock
 pub record AgentsFit (t : Table) (n : ℕ) (l : List Agent) (h : Held) : Type 0 where
@@ -98,8 +84,8 @@ pub record AgentsFit (t : Table) (n : ℕ) (l : List Agent) (h : Held) : Type 0 
   pub fits : n ≤ mostAgents
   pub room : (i : ℕ) → n ≤ i → agentIn l (agentNo i) ≡ emptyAgent
   pub each : (a : AgentNo) → a .0 < n → Alone (t .sites) (agentIn l a)
-  pub families : FamiliesMatch (withAgents t n l h)
-  pub lock : LockRight (withAgents t n l h)
+  pub families : FamiliesMatch (withAgentsHeld t n l h)
+  pub lock : LockRight (withAgentsHeld t n l h)
   -- no agent that was there has become a child
   pub up : (a p : AgentNo) → IsAgent t a → ChildOf (agentIn l a .phase) p → (q : AgentNo) × Child t q a
   -- the addressee of a message that is out stands where it stood
@@ -110,7 +96,7 @@ pub record AgentsFit (t : Table) (n : ℕ) (l : List Agent) (h : Held) : Type 0 
       → statusOf t m ≡ Out s
       → agentIn l (messageAt t m .addressee) .site ≡ siteOf t (messageAt t m .addressee)
 
-pub agents-sound : (t : Table) (n : ℕ) (l : List Agent) (h : Held) → Sound t → AgentsFit t n l h → Sound (withAgents t n l h)
+pub agents-sound : (t : Table) (n : ℕ) (l : List Agent) (h : Held) → Sound t → AgentsFit t n l h → Sound (withAgentsHeld t n l h)
 agents-sound t n l h s f =
     record {
       counts =
@@ -154,7 +140,7 @@ pub moves-same :
     (t : Table) (n : ℕ) (l : List Agent)
     → ((c : AgentNo) → (IsAgent t c × Moving t c) ↔ ((c .0 < n) × MovingIn (agentIn l c .phase)))
     → LockRight t
-    → LockRight (withAgents t n l (t .held))
+    → LockRight (withAgentsHeld t n l (t .held))
 moves-same t n l same r =
     record {
       move = λ c. (λ e. same c .0 (r .move c .0 e), λ x. r .move c .1 (same c .1 x));

@@ -16,11 +16,12 @@ use Rattle.table.specs.declared.Table.{Table}
 use Rattle.table.specs.Holding.{IsAgent, IsMessage, phaseOf, siteOf, mapOf, statusOf, lockOf, logAt, withStatus, withLock}
 use Rattle.table.specs.Soundness.{LockRight, OutToAddressee, NoneLost, LogExact}
 use Rattle.table.specs.Steps.{addresseeOf}
+use Rattle.records.proofs.ReaderLaws.{delivered-is, is-delivered}
 use Rattle.keeping.proofs.Places.{Seen, changed, kept}
 use Rattle.keeping.proofs.Locking.{never}
 use Rattle.keeping.proofs.OneAgent.{Good, lock-shaped}
 use Rattle.keeping.proofs.MailSteps.{mailOf, mail-sound}
-use Rattle.keeping.proofs.OneMessage.{delivered-test, delivered-is, status-shaped, status-now, room-kept, mail-taken, mail-freed}
+use Rattle.keeping.proofs.OneMessage.{status-shaped, status-now, room-kept, mail-taken, mail-freed}
 
 module _ (t : Table) (g : Good t) (m : MailNo) (there : IsMessage t m) (x : Status) where
   abbrev Now : MailNo → Type 0
@@ -55,10 +56,10 @@ module _ (t : Table) (g : Good t) (m : MailNo) (there : IsMessage t m) (x : Stat
   pub log-now : isDelivered x ≡ isDelivered (statusOf t m) → LogExact (withStatus t m x)
   log-now it =
       record {
-        once = λ k h d. g .1 .log .once k h (delivered-is _ (sym (delivered-same it k) ∙ delivered-test _ d));
+        once = λ k h d. g .1 .log .once k h (delivered-is _ (sym (delivered-same it k) ∙ is-delivered _ d));
         only = λ i h.
             let was = g .1 .log .only i h in
-            (was .0, delivered-is _ (delivered-same it (logAt t i) ∙ delivered-test _ (was .1)));
+            (was .0, delivered-is _ (delivered-same it (logAt t i) ∙ is-delivered _ (was .1)));
       }
 
   -- a status and the lock changed, and nothing else

@@ -17,12 +17,13 @@ use Rattle.table.specs.declared.Table.{Table}
 use Rattle.table.specs.Holding.{mostMessages, IsMessage, statusOf, logAt, withStatus, withLogged}
 use Rattle.table.specs.Soundness.{Delivered, timesLogged}
 use Rattle.records.proofs.PlaceLaws.{count-alike, count-hit, count-miss}
+use Rattle.records.proofs.ReaderLaws.{delivered-is, is-delivered}
 use Rattle.keeping.proofs.Counting.{count-none, fewer}
 use Rattle.keeping.proofs.Places.{Seen, changed, kept, seen-entry}
 use Rattle.keeping.proofs.Locking.{never}
 use Rattle.keeping.proofs.OneAgent.{Good}
 use Rattle.keeping.proofs.MailSteps.{mailOf, mail-sound}
-use Rattle.keeping.proofs.OneMessage.{delivered-test, delivered-is, status-shaped, status-now, room-kept, mail-left}
+use Rattle.keeping.proofs.OneMessage.{status-shaped, status-now, room-kept, mail-left}
 use Rattle.keeping.proofs.Deliveries.{out-now, lost-now}
 
 module _ (t : Table) (g : Good t) where
@@ -33,7 +34,7 @@ module _ (t : Table) (g : Good t) where
       (t .handed)
       (λ i. sameMail (logAt t i) k)
       (λ i h. ne-eqb (logAt t i .0) (k .0) (λ q.
-      false≢true (sym e ∙ delivered-test (statusOf t k) (subst (Delivered t) (ap mailNo q) (g .1 .log .only i h .1)))))
+      false≢true (sym e ∙ is-delivered (statusOf t k) (subst (Delivered t) (ap mailNo q) (g .1 .log .only i h .1)))))
 
   at-most-once : (j : ℕ) → j < t .messages → timesLogged t (mailNo j) ≤ 1
   at-most-once j h = which (isDelivered (statusOf t (mailNo j))) refl
@@ -90,14 +91,14 @@ module _ (t : Table) (g : Good t) (m : MailNo) (there : IsMessage t m) (s : Site
       told (kept n r) d =
           count-miss (t .handed) (λ i. sameMail (logAt after i) k) (ne-eqb _ _ (λ q. n (sym (sym last-entry ∙ ap mailNo q))))
           ∙ old-times k
-          ∙ g .1 .log .once k h (delivered-is _ (ap isDelivered (sym r) ∙ delivered-test _ d))
+          ∙ g .1 .log .once k h (delivered-is _ (ap isDelivered (sym r) ∙ is-delivered _ d))
 
   delivered-still : (k : MailNo) → Delivered t k → Delivered after k
   delivered-still k d = told (status-now t g m there Handed k)
     where
       told : Seen k m Handed (statusOf t k) (statusOf after k) → Delivered after k
       told (changed q r) = inl r
-      told (kept n r) = delivered-is _ (ap isDelivered r ∙ delivered-test _ d)
+      told (kept n r) = delivered-is _ (ap isDelivered r ∙ is-delivered _ d)
 
   handed-now : statusOf after m ≡ Handed
   handed-now = told (status-now t g m there Handed m)

@@ -1,7 +1,7 @@
 -- Every step, refused or not, keeps a sound table sound; and a sound table never comes to lost.
 use Prim.Native.Nat.{ℕ}
 use mathlib.Core.Path.{_≡_, ap, sym, subst}
-use mathlib.Core.Bool.{Bool, true, false}
+use mathlib.Core.Bool.{Bool}
 use borrow.Author.Tests.{lt-ltb, eq-eqb}
 use mathlib.Core.List.{List, [], _∷_}
 use Rattle.records.specs.declared.SiteNo.{SiteNo}
@@ -14,13 +14,12 @@ use Rattle.table.specs.declared.Step.{Step}
 use Rattle.table.specs.declared.Step.the-variants.{Hand}
 use Rattle.table.specs.Holding.{Shaped, IsMessage, siteOf, statusOf, withStatus, withLogged}
 use Rattle.table.specs.Soundness.{Sound}
-use Rattle.table.specs.Testing.{soundTest}
 use Rattle.table.specs.Answers.{done, unless}
 use Rattle.table.specs.Steps.{addresseeOf, ruleOf, stepOf}
 use Rattle.table.specs.Sessions.{lastFrom}
 use Rattle.table.proofs.SoundIff.{sound-to}
 use Rattle.keeping.proofs.OneAgent.{Good}
-use Rattle.keeping.proofs.Outcomes.{Went, spawned, asked, sent, enrolled, greeted, granted, leapt, booked, settled, forwarded, handed, lost, closed, Outcome, stayed, went, outcome}
+use Rattle.keeping.proofs.Outcomes.{Went, spawned, asked, sent, enrolled, greeted, granted, leapt, booked, settled, forwarded, handed, lost, closed, Outcome, stayed, went, step-outcome}
 use Rattle.keeping.proofs.Moves.{ask-good, grant-good, leap-good, book-good, settle-good}
 use Rattle.keeping.proofs.Enrol.{enrol-good}
 use Rattle.keeping.proofs.Greet.{greet-good}
@@ -46,20 +45,11 @@ went-good t s n t′ g (lost m u here turn missed) = absurd (missed (g .1 .out m
 went-good t s n t′ g (closed m here turn) = close-good t g m here turn
 
 outcome-good : (t : Table) (s : Step) (r : Answer) → Good t → Outcome t s r → Good (r .table)
-outcome-good t s r g (stayed same code) = subst Good (sym same) g
+outcome-good t s r g (stayed same code number below) = subst Good (sym same) g
 outcome-good t s r g (went code w) = went-good t s (r .number) (r .table) g w
 
-pub keeps : (t : Table) → Shaped t → Sound t → (s : Step) → Shaped (ruleOf t s .table) × Sound (ruleOf t s .table)
-keeps t sh so s = outcome-good t s (ruleOf t s) (sh, so) (outcome t s)
-
--- whatever the soundness test says
 pub step-keeps : (t : Table) → Shaped t → Sound t → (s : Step) → Shaped (stepOf t s .table) × Sound (stepOf t s .table)
-unfolding stepOf
-step-keeps t sh so s = which (soundTest t)
-  where
-    which : (b : Bool) → Good (unless b BadState t (ruleOf t s) .table)
-    which true = keeps t sh so s
-    which false = (sh, so)
+step-keeps t sh so s = outcome-good t s (stepOf t s) (sh, so) (step-outcome t s)
 
 -- and along any sequence of steps
 pub run-keeps : (r : Answer) → Shaped (r .table) → Sound (r .table) → (ss : List Step) → Shaped (lastFrom r ss) × Sound (lastFrom r ss)

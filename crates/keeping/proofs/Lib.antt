@@ -6,6 +6,7 @@ pub mod AgentSteps
 pub mod Locking
 pub mod OneAgent
 pub mod Outcomes
+pub mod Refusals
 pub mod Moves
 pub mod Enrol
 pub mod Greet

@@ -9,7 +9,7 @@ use Rattle.records.specs.declared.Held.{Held}
 use Rattle.records.specs.Numbers.{mailNo}
 use Rattle.records.specs.Messages.{emptyMessage, emptyEntry}
 use Rattle.table.specs.declared.Table.{Table}
-use Rattle.table.specs.Holding.{mostMessages, IsSite, messageAt, logAt}
+use Rattle.table.specs.Holding.{mostMessages, IsSite, messageAt, logAt, withHeld, withMessages, withLog}
 use Rattle.table.specs.Soundness.{Sound, LockRight, OutToAddressee, NoneLost, PartiesThere, NumbersRun, LogExact}
 
 -- the lists that hold messages and log, and their counts
@@ -39,20 +39,12 @@ mailOf t =
 -- the same table with other messages, another log and another lock
 abbrev pub withMail : Table → Held → Mail → Table
 withMail t h x =
-    record {
-      sites = t .sites;
-      agents = t .agents;
-      messages = x .messages;
-      handed = x .handed;
-      held = h;
-      agent = t .agent;
-      sender = x .sender;
-      number = x .number;
-      addressee = x .addressee;
-      value = x .value;
-      status = x .status;
-      log = x .log;
-    }
+    withHeld
+    (withLog
+    (withMessages t (x .messages) (x .sender) (x .number) (x .addressee) (x .value) (x .status))
+    (x .handed)
+    (x .log))
+    h
 
 -- what is to be shown of them
 pub record MailFits (t : Table) (h : Held) (x : Mail) : Type 0 where

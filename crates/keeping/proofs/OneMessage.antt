@@ -1,19 +1,20 @@
 -- A step that changes one message's status: what is read of every message then, and the lock that is right again.
 use Prim.Native.Nat.{ℕ, _≤_}
 use mathlib.Core.Path.{_≡_, refl, ap, sym, _∙_, subst}
-use mathlib.Core.Logic.{_⊎_, inl, inr, _↔_, Iff·rfl}
-use mathlib.Core.Bool.{true, false, true≢false, false≢true}
+use mathlib.Core.Logic.{_⊎_, _↔_, Iff·rfl}
+use mathlib.Core.Bool.{false, true≢false}
 use lib.ListN.{length-set}
 use native.Mathlib.Omega.{arith}
 use Rattle.records.specs.declared.SiteNo.{SiteNo}
 use Rattle.records.specs.declared.MailNo.{MailNo}
 use Rattle.records.specs.declared.Message.{Message}
 use Rattle.records.specs.declared.Status.{Status}
-use Rattle.records.specs.declared.Status.the-variants.{Queued, Out, Handed, Closed, Lost}
+use Rattle.records.specs.declared.Status.the-variants.{Out, Handed}
 use Rattle.records.specs.declared.Lock.{Lock}
 use Rattle.records.specs.declared.Lock.the-variants.{Unheld, ForMove, ForMail}
 use Rattle.records.specs.Numbers.{mailNo}
-use Rattle.records.specs.Messages.{emptyMessage, isUnderWay, isDelivered, standing}
+use Rattle.records.proofs.ReaderLaws.{is-under-way}
+use Rattle.records.specs.Messages.{emptyMessage, isUnderWay, standing}
 use Rattle.table.specs.declared.Table.{Table}
 use Rattle.table.specs.Holding.{Shaped, IsMessage, messageAt, statusOf, lockOf, withStatus, withLock}
 use Rattle.table.specs.Soundness.{LockRight}
@@ -38,30 +39,10 @@ abbrev pub UnderWayIn : Status → Type 0
 UnderWayIn x = ((s : SiteNo) × (x ≡ Out s)) ⊎ (x ≡ Handed)
 
 pub not-under-way : (x : Status) → isUnderWay x ≡ false → UnderWayIn x → ⊥
-not-under-way x e (inl h) = true≢false (sym (ap isUnderWay (h .1)) ∙ e)
-not-under-way x e (inr h) = true≢false (sym (ap isUnderWay h) ∙ e)
+not-under-way x e h = true≢false (sym (is-under-way x h) ∙ e)
 
 pub under-way-as : (x z : Status) → x ≡ z → UnderWayIn x ↔ UnderWayIn z
 under-way-as x z e = subst (λ (w : Status). UnderWayIn x ↔ UnderWayIn w) e Iff·rfl
-
--- the statuses of a message that stands in an inbox
-abbrev pub DeliveredIn : Status → Type 0
-DeliveredIn x = (x ≡ Handed) ⊎ (x ≡ Closed)
-
-pub not-delivered : (x : Status) → isDelivered x ≡ false → DeliveredIn x → ⊥
-not-delivered x e (inl h) = true≢false (sym (ap isDelivered h) ∙ e)
-not-delivered x e (inr h) = true≢false (sym (ap isDelivered h) ∙ e)
-
-pub delivered-test : (x : Status) → DeliveredIn x → isDelivered x ≡ true
-delivered-test x (inl h) = ap isDelivered h
-delivered-test x (inr h) = ap isDelivered h
-
-pub delivered-is : (x : Status) → isDelivered x ≡ true → DeliveredIn x
-delivered-is Queued e = absurd (false≢true e)
-delivered-is (Out s) e = absurd (false≢true e)
-delivered-is Handed e = inl refl
-delivered-is Closed e = inr refl
-delivered-is Lost e = absurd (false≢true e)
 
 module _ (t : Table) (g : Good t) (m : MailNo) (there : IsMessage t m) (x : Status) where
   seen : (k : MailNo) → Seen k m (withStand (messageAt t m) x) (messageAt t k) (messageAt (withStatus t m x) k)

@@ -1,9 +1,10 @@
--- What becomes of a step on any table: either the table is as it was and the code is not Done, or the step went, from a table as its rule
+-- What becomes of a step on any table: either the table is as it was, the code is not Done and the number is 0 or a message's, or the step went, from a table as its rule
 -- asks for to the next one that its rule gives.
-use Prim.Native.Nat.{ℕ, suc, _<_}
+use Prim.Native.Nat.{ℕ, suc, _<_, _≤_}
 use mathlib.Core.Path.{_≡_, refl, ap}
-use mathlib.Core.Bool.{Bool, true, false, cond, _&&_, false≢true}
+use mathlib.Core.Bool.{Bool, true, false, cond, _&&_}
 use lib.Dec.{eqb, leb}
+use native.Mathlib.Omega.{arith}
 use borrow.Author.Tests.{ltb-true, eqb-true, eqb-false}
 use Rattle.records.specs.declared.AgentNo.{AgentNo}
 use Rattle.records.specs.declared.SiteNo.{SiteNo}
@@ -16,6 +17,7 @@ use Rattle.records.specs.declared.Found.{Found}
 use Rattle.records.specs.declared.Found.the-variants.{Missing, There}
 use Rattle.records.specs.declared.Code.{Code}
 use Rattle.records.specs.declared.Code.the-variants.{Done, Repeat, NoSite, NoAgent, NoMessage, Busy, NotUp, OutOfTurn, LockHeld, NotEnrolled, AgentsFull, MessagesFull, Changed, Gap, BadState}
+use Rattle.records.specs.Codes.{IsRefusal}
 use Rattle.records.specs.Numbers.{siteNo, sameSite}
 use Rattle.records.specs.Agents.{bornOf, withPhase, movedTo, mappedHere}
 use Rattle.records.specs.Messages.{travelsTo}
@@ -27,8 +29,10 @@ use Rattle.table.specs.Holding.{mostAgents, mostMessages, IsAgent, IsSite, IsMe
 use Rattle.table.specs.Testing.{soundTest}
 use Rattle.table.specs.Answers.{done, repeated, unless}
 use Rattle.table.specs.Steps.{toPhase, sentBy, newMessage, takeNew, findSent, sameLetter, compareSent, retry, addresseeOf, ruleOf, stepOf}
-use Rattle.records.proofs.ReaderLaws.{mapped-is}
-use Rattle.keeping.proofs.Tested.{free-is, born-is, enrolled-is, asking-is, granted-is, landed-is, booked-is, up-is, queued-is, out-is, handed-is, unheld-is}
+use Rattle.records.proofs.FlagLaws.{and-left, and-right}
+use Rattle.records.proofs.ReaderLaws.{mapped-is, unheld-is}
+use Rattle.table.proofs.Looking.{last-below}
+use Rattle.keeping.proofs.Tested.{free-is, born-is, enrolled-is, asking-is, granted-is, landed-is, booked-is, up-is, queued-is, out-is, handed-is}
 use Rattle.keeping.proofs.Families.{ChildOf}
 use Rattle.keeping.proofs.Locking.{never}
 
@@ -108,17 +112,13 @@ pub data Went (t : Table) : Step → ℕ → Table → Type 0 where
       → Went t (Close m) 0 (withLock (withStatus t m Closed) Unheld)
 
 pub data Outcome (t : Table) (s : Step) (r : Answer) : Type 0 where
-  stayed : r .table ≡ t → (r .code ≡ Done → ⊥) → Outcome t s r
+  stayed : r .table ≡ t → (r .code ≡ Done → ⊥) → (IsRefusal (r .code) → r .number ≡ 0) → r .number ≤ t .messages → Outcome t s r
   went : r .code ≡ Done → Went t s (r .number) (r .table) → Outcome t s r
 
 -- one test of a rule
 tested : (t : Table) (s : Step) (b : Bool) (c : Code) (r : Answer) → (c ≡ Done → ⊥) → (b ≡ true → Outcome t s r) → Outcome t s (unless b c t r)
 tested t s true c r n f = f refl
-tested t s false c r n f = stayed refl n
-
-pub both-true : (a b : Bool) → (a && b) ≡ true → (a ≡ true) × (b ≡ true)
-both-true true b e = (refl, e)
-both-true false b e = absurd (false≢true e)
+tested t s false c r n f = stayed refl n (λ h. refl) (omega arith)
 
 spawn-outcome : (t : Table) (a : AgentNo) → Outcome t (Spawn a) (ruleOf t (Spawn a))
 unfolding ruleOf
@@ -215,10 +215,11 @@ close-outcome t m =
     went refl (closed m (ltb-true _ _ here) (handed-is _ turn))))
 
 -- a retry changes nothing, whatever it finds
-found : (t : Table) (a : AgentNo) (n : ℕ) (b : AgentNo) (v : ℕ) (f : Found) → Outcome t (Send a n b v) (compareSent t b v f)
-found t a n b v Missing = stayed refl (λ e. never (cc))
-found t a n b v (There m) =
-    tested t (Send a n b v) (sameLetter (messageAt t m) b v) Changed (repeated t m) (λ e. never (cc)) (λ same. stayed refl (λ (e : Repeat ≡ Done). never (cc)))
+found : (t : Table) (a : AgentNo) (n : ℕ) (b : AgentNo) (v : ℕ) (f : Found) → ((m : MailNo) → There m ≡ f → IsMessage t m) → Outcome t (Send a n b v) (compareSent t b v f)
+found t a n b v Missing there = stayed refl (λ e. never (cc)) (λ h. refl) (omega arith)
+found t a n b v (There m) there =
+    tested t (Send a n b v) (sameLetter (messageAt t m) b v) Changed (repeated t m) (λ e. never (cc)) (λ same.
+    stayed refl (λ (e : Repeat ≡ Done). never (cc)) (λ (h : 10 ≤ 1). absurd (omega arith)) (omega (arith, there m refl)))
 
 numbered :
     (t : Table) (a : AgentNo) (n : ℕ) (b : AgentNo) (v : ℕ)
@@ -234,7 +235,7 @@ numbered t a n b v from to up true e =
     went refl (sent a n b v from to up (eqb-true _ _ e) (ltb-true _ _ room)))
 numbered t a n b v from to up false e =
     tested t (Send a n b v) (leb 1 n && leb n (sentBy t a)) Gap _ (λ e. never (cc)) (λ old.
-    found t a n b v (findSent t a n))
+    found t a n b v (findSent t a n) (last-below _ (t .messages)))
 
 send-outcome : (t : Table) (a : AgentNo) (n : ℕ) (b : AgentNo) (v : ℕ) → Outcome t (Send a n b v) (ruleOf t (Send a n b v))
 unfolding ruleOf
@@ -247,13 +248,13 @@ send-outcome t a n b v =
     n
     b
     v
-    (ltb-true _ _ (both-true (isAgent t a) (isAgent t b) here .0))
-    (ltb-true _ _ (both-true (isAgent t a) (isAgent t b) here .1))
+    (ltb-true _ _ (and-left (isAgent t a) (isAgent t b) here))
+    (ltb-true _ _ (and-right (isAgent t a) (isAgent t b) here))
     (up-is _ up)
     _
     refl))
 
-pub outcome : (t : Table) (s : Step) → Outcome t s (ruleOf t s)
+outcome : (t : Table) (s : Step) → Outcome t s (ruleOf t s)
 outcome t (Spawn a) = spawn-outcome t a
 outcome t (Ask a u) = ask-outcome t a u
 outcome t (Send a n b v) = send-outcome t a n b v

@@ -18,12 +18,13 @@ use Rattle.table.specs.Holding.{mostMessages, IsAgent, IsMessage, phaseOf, site
 use Rattle.table.specs.Soundness.{UnderWay, Delivered, sentBefore}
 use Rattle.table.specs.Steps.{sentBy, newMessage}
 use Rattle.records.proofs.PlaceLaws.{count-alike}
+use Rattle.records.proofs.ReaderLaws.{delivered-is, is-delivered}
 use Rattle.keeping.proofs.Places.{Seen, changed, kept, seen-message}
 use Rattle.keeping.proofs.Families.{ChildOf}
 use Rattle.keeping.proofs.Locking.{never}
 use Rattle.keeping.proofs.OneAgent.{Good}
 use Rattle.keeping.proofs.MailSteps.{mailOf, mail-sound}
-use Rattle.keeping.proofs.OneMessage.{not-under-way, under-way-as, delivered-test, delivered-is}
+use Rattle.keeping.proofs.OneMessage.{not-under-way, under-way-as}
 
 module _
     (t : Table)
@@ -98,17 +99,17 @@ module _
       where
         told : Now k → IsMessage t k × Delivered t k
         told (changed q r) =
-            absurd (false≢true (sym (ap (λ (y : Message). isDelivered (y .status)) r) ∙ delivered-test (statusOf after k) x))
+            absurd (false≢true (sym (ap (λ (y : Message). isDelivered (y .status)) r) ∙ is-delivered (statusOf after k) x))
         told (kept d r) = (
           was-there k h d,
-          delivered-is (statusOf t k) (sym (ap (λ (y : Message). isDelivered (y .status)) r) ∙ delivered-test (statusOf after k) x),
+          delivered-is (statusOf t k) (sym (ap (λ (y : Message). isDelivered (y .status)) r) ∙ is-delivered (statusOf after k) x),
         )
 
     still-delivered : (k : MailNo) → IsMessage t k → Delivered t k → Delivered after k
     still-delivered k h x =
         delivered-is
         (statusOf after k)
-        (ap (λ (y : Message). isDelivered (y .status)) (old-message k h) ∙ delivered-test (statusOf t k) x)
+        (ap (λ (y : Message). isDelivered (y .status)) (old-message k h) ∙ is-delivered (statusOf t k) x)
 
     -- what was taken before a message that was there, or before the new one
     sent-same : (x : AgentNo) (k : MailNo) → k .0 ≤ t .messages → sentBefore after x k ≡ sentBefore t x k

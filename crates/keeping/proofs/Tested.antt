@@ -1,19 +1,16 @@
--- A phase, a status and a map entry are what their kind and the number that they name say. So a passed test of a rule gives the very
+-- A phase and a status are what their kind and the number that they name say. So a passed test of a rule gives the very
 -- phase or status, in the terms that the rule goes on with.
-use mathlib.Core.Path.{_≡_, refl, ap, sym, _∙_}
+use mathlib.Core.Path.{_≡_, ap, sym, _∙_}
 use mathlib.Core.Logic.{_⊎_, inl, inr}
-use mathlib.Core.Bool.{true, not, true≢false, false≢true}
+use mathlib.Core.Bool.{true, not, true≢false}
 use borrow.Author.Tests.{not-true}
 use Rattle.records.specs.declared.AgentNo.{AgentNo}
 use Rattle.records.specs.declared.Phase.{Phase}
 use Rattle.records.specs.declared.Phase.the-variants.{Free, Born, Enrolled, Asking, Granted, Landed, Booked}
 use Rattle.records.specs.declared.Status.{Status}
 use Rattle.records.specs.declared.Status.the-variants.{Queued, Out, Handed}
-use Rattle.records.specs.declared.Lock.{Lock}
-use Rattle.records.specs.declared.Lock.the-variants.{Unheld, ForMove, ForMail}
 use Rattle.records.specs.Agents.{peerOf, targetOf, isFree, isBorn, isEnrolled, isAsking, isGranted, isLanded, isBooked, isChild}
 use Rattle.records.specs.Messages.{travelsTo, isQueued, isOut, isHanded}
-use Rattle.records.specs.Locks.{isUnheld}
 use Rattle.records.proofs.ReaderLaws.{phase-is, status-is}
 
 pub free-is : (p : Phase) → isFree p ≡ true → p ≡ Free
@@ -50,8 +47,3 @@ out-is x e = status-is 1 x e
 
 pub handed-is : (x : Status) → isHanded x ≡ true → x ≡ Handed
 handed-is x e = status-is 2 x e
-
-pub unheld-is : (l : Lock) → isUnheld l ≡ true → l ≡ Unheld
-unheld-is Unheld e = refl
-unheld-is (ForMove a) e = absurd (false≢true e)
-unheld-is (ForMail m) e = absurd (false≢true e)

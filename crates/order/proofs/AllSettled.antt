@@ -16,7 +16,7 @@ use Rattle.records.specs.declared.Status.{Status}
 use Rattle.records.specs.declared.Status.the-variants.{Queued, Out, Handed, Closed, Lost}
 use Rattle.records.specs.declared.Lock.the-variants.{ForMove}
 use Rattle.records.specs.Numbers.{agentNo, sameAgent}
-use Rattle.records.specs.Messages.{itemOf, isDelivered, emptyEntry}
+use Rattle.records.specs.Messages.{itemOf, isDelivered}
 use Rattle.table.specs.declared.Table.{Table}
 use Rattle.table.specs.declared.Step.{Step}
 use Rattle.table.specs.Holding.{Shaped, IsAgent, IsMessage, siteOf, phaseOf, mapOf, messageAt, statusOf, lockOf, logOf, inboxOf}
@@ -24,22 +24,17 @@ use Rattle.table.specs.Soundness.{Sound, Delivered, timesLogged}
 use Rattle.table.specs.Steps.{addresseeOf}
 use Rattle.keeping.proofs.Locking.{never}
 use Rattle.keeping.proofs.OneAgent.{Good}
-use Rattle.keeping.proofs.OneMessage.{delivered-is}
+use Rattle.records.proofs.ReaderLaws.{delivered-is}
 use Rattle.keeping.proofs.Hand.{not-logged}
 use Rattle.order.specs.Lists.{In}
 use Rattle.order.specs.Marks.{marksOf, tableAfter}
 use Rattle.order.specs.Operations.{Taken}
 use Rattle.order.specs.Settled.{timesIn, Waiting, NotYet, InPlace, MailSettled, MapSettled}
-use Rattle.order.proofs.BoardLaws.{in-take}
+use Rattle.order.proofs.BoardLaws.{logged-there}
 use Rattle.order.proofs.Running.{reached}
 use Rattle.order.proofs.Inboxes.{countIn, count-places, in-counted, from-log, in-inbox, times-in}
 
 module _ (t : Table) (g : Good t) where
-  logged : (k : MailNo) → In k (logOf t) → IsMessage t k
-  logged k h =
-      let at = in-take (t .handed) (t .log) emptyEntry k h in
-      subst (IsMessage t) (at .2) (g .1 .log .only (at .0) (at .1) .0)
-
   -- counted along the log, as soundness counts it by places
   log-count : (m : MailNo) → countIn m (logOf t) ≡ timesLogged t m
   log-count m = count-places m (t .handed) (t .log) (omega (arith, g .0 .log, g .1 .counts .logFits))
@@ -47,7 +42,7 @@ module _ (t : Table) (g : Good t) where
   times : (m : MailNo) → IsMessage t m → (a : AgentNo) (b : Bool) → sameAgent (addresseeOf t m) a ≡ b → timesIn (itemOf (messageAt t m)) (inboxOf t a) ≡ cond b (timesLogged t m) 0
   unfolding inboxOf
   times m h a b e =
-      times-in t (g .1) m h a (logOf t) logged ∙ ap (λ (n : ℕ). cond (sameAgent (addresseeOf t m) a) n 0) (log-count m) ∙ ap (λ (c : Bool). cond c (timesLogged t m) 0) e
+      times-in t (g .1) m h a (logOf t) (logged-there t (g .1)) ∙ ap (λ (n : ℕ). cond (sameAgent (addresseeOf t m) a) n 0) (log-count m) ∙ ap (λ (c : Bool). cond c (timesLogged t m) 0) e
 
   -- a message that stands in no inbox waits: none is lost
   waits : (m : MailNo) → IsMessage t m → (x : Status) → statusOf t m ≡ x → isDelivered x ≡ false → Waiting t m
@@ -95,7 +90,7 @@ module _ (t : Table) (g : Good t) where
   unfolding inboxOf
   from-message a x h =
       let found = from-log t a (logOf t) x h in
-      (found .0, logged (found .0) (found .1), found .2, found .3)
+      (found .0, logged-there t (g .1) (found .0) (found .1), found .2, found .3)
 
   landed-or-not : (p : Phase) → (p ≡ Landed) ⊎ (p ≡ Landed → ⊥)
   landed-or-not Free = inr (λ e. never (cc))

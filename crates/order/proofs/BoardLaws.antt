@@ -1,6 +1,6 @@
 -- The board of a table, one step further; and one operation more at the end of the list.
 use Prim.Native.Nat.{ℕ, zero, suc, _<_}
-use mathlib.Core.Path.{_≡_, refl, ap, sym, _∙_}
+use mathlib.Core.Path.{_≡_, refl, ap, sym, _∙_, subst}
 use mathlib.Core.Logic.{inl, inr}
 use mathlib.Core.Bool.{Bool, true, false, cond}
 use mathlib.Core.List.{List, [], _∷_, _++_}
@@ -12,9 +12,10 @@ use Rattle.records.specs.declared.SiteNo.{SiteNo}
 use Rattle.records.specs.declared.MailNo.{MailNo}
 use Rattle.records.specs.declared.Item.{Item}
 use Rattle.records.specs.Numbers.{sameAgent}
-use Rattle.records.specs.Messages.{itemOf}
+use Rattle.records.specs.Messages.{itemOf, emptyEntry}
 use Rattle.table.specs.declared.Table.{Table}
-use Rattle.table.specs.Holding.{messageAt, siteOf, logOf, inboxFrom, inboxOf}
+use Rattle.table.specs.Holding.{IsMessage, messageAt, siteOf, logOf, inboxFrom, inboxOf}
+use Rattle.table.specs.Soundness.{Sound}
 use Rattle.table.specs.Steps.{addresseeOf}
 use Rattle.order.specs.Lists.{In}
 use Rattle.order.specs.Operations.{Operation, creation, move, message}
@@ -36,6 +37,12 @@ in-take zero l d x h = absurd h
 in-take (suc n) [] d x h = absurd h
 in-take (suc n) (y ∷ ys) d x (inl e) = (0, omega arith, sym e)
 in-take (suc n) (y ∷ ys) d x (inr h) = let found = in-take n ys d x h in (suc (found .0), omega (arith, found .1), found .2)
+
+-- what stands in the log of a sound table is a message
+pub logged-there : (t : Table) → Sound t → (k : MailNo) → In k (logOf t) → IsMessage t k
+logged-there t s k h =
+    let at = in-take (t .handed) (t .log) emptyEntry k h in
+    subst (IsMessage t) (at .2) (s .log .only (at .0) (at .1) .0)
 
 -- an inbox looks only at the addressee of the messages in the log, and at what is read of them
 pub inbox-same :
@@ -66,6 +73,16 @@ inbox-more t a (k ∷ ks) m =
     ap (λ (r : List Item). cond (sameAgent (addresseeOf t k) a) (itemOf (messageAt t k) ∷ r) r) (inbox-more t a ks m)
     ∙ joined (sameAgent (addresseeOf t k) a) (sameAgent (addresseeOf t m) a) (itemOf (messageAt t k)) (inboxFrom t a ks) (itemOf (messageAt t m) ∷ [])
 
+-- the same log of messages that are read the same
+pub inboxes-same :
+    (t t′ : Table)
+    → logOf t′ ≡ logOf t
+    → ((m : MailNo) → In m (logOf t) → (addresseeOf t′ m ≡ addresseeOf t m) × (itemOf (messageAt t′ m) ≡ itemOf (messageAt t m)))
+    → (a : AgentNo)
+    → inboxOf t′ a ≡ inboxOf t a
+unfolding inboxOf
+inboxes-same t t′ log mail a = ap (inboxFrom t′ a) log ∙ inbox-same t t′ a (logOf t) mail
+
 -- a step that moves nobody and hands nothing over
 pub board-same :
     (t t′ : Table)
@@ -74,12 +91,8 @@ pub board-same :
     → logOf t′ ≡ logOf t
     → ((m : MailNo) → In m (logOf t) → (addresseeOf t′ m ≡ addresseeOf t m) × (itemOf (messageAt t′ m) ≡ itemOf (messageAt t m)))
     → boardOf t′ ≡ boardOf t
-unfolding inboxOf
 board-same t t′ count sites log mail =
-    λ i. record { count = count i; site = λ a. sites a i; inbox = λ a. inboxes a i }
-  where
-    inboxes : (a : AgentNo) → inboxFrom t′ a (logOf t′) ≡ inboxFrom t a (logOf t)
-    inboxes a = ap (inboxFrom t′ a) log ∙ inbox-same t t′ a (logOf t) mail
+    λ i. record { count = count i; site = λ a. sites a i; inbox = λ a. inboxes-same t t′ log mail a i }
 
 -- a creation, a move
 pub board-created :

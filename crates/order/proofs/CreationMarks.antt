@@ -14,7 +14,7 @@ use Rattle.records.specs.declared.Phase.the-variants.{Free, Spawning, Born, Enr
 use Rattle.records.specs.Numbers.{agentNo}
 use Rattle.records.specs.Agents.{bornOf}
 use Rattle.table.specs.declared.Table.{Table}
-use Rattle.table.specs.Holding.{mostAgents, IsAgent, siteOf, phaseOf, logOf, inboxOf, nextAgent, withNewAgent}
+use Rattle.table.specs.Holding.{mostAgents, IsAgent, siteOf, phaseOf, nextAgent, withNewAgent}
 use Rattle.table.specs.Steps.{toPhase}
 use Rattle.keeping.proofs.Places.{first, second, neither}
 use Rattle.keeping.proofs.Locking.{never}
@@ -27,8 +27,8 @@ use Rattle.order.specs.Marks.{Mark, creates, greets, leaves, hands, At}
 use Rattle.order.specs.Operations.{Operation, creation, move, message, child, nameOf, EffectAt, OverAt}
 use Rattle.order.proofs.MarkLaws.{more, at-last, at-snoc}
 use Rattle.order.proofs.Links.{MoveLink}
-use Rattle.order.proofs.LinkSteps.{creations-on, move-idle}
-use Rattle.order.proofs.BoardLaws.{inbox-same, board-same, board-created}
+use Rattle.order.proofs.LinkSteps.{creations-on, move-idle, move-as}
+use Rattle.order.proofs.BoardLaws.{inboxes-same, board-same, board-created}
 use Rattle.order.proofs.Invariant.{Inv, inv-quiet, inv-effect, new-plain, mail-same, move-same}
 
 module _ (start : Table) (ms : List Mark) (t : Table) (order : List Operation) (v : Inv start ms t order) where
@@ -69,12 +69,9 @@ module _ (start : Table) (ms : List Mark) (t : Table) (order : List Operation) (
       moves c = told (Greet.now t (v .good) b p there e c)
         where
           told : Greet.Now t (v .good) b p there e c → MoveLink start (more ms (greets b)) c (phaseOf after c)
-          told (Greet.freed i w r) = subst (MoveLink start (more ms (greets b)) c) (ap (λ (z : Agent). z .phase) (sym r)) (move-idle start (more ms (greets b)) c Free refl)
+          told (Greet.freed i w r) = move-as r (move-idle start (more ms (greets b)) c Free refl)
           told (Greet.other n m r) =
-              subst
-              (MoveLink start (more ms (greets b)) c)
-              (ap (λ (z : Agent). z .phase) (sym r))
-              (move-same start ms (greets b) t c (v .moves) refl (λ q. never (cc)) (λ q. never (cc)))
+              move-as r (move-same start ms (greets b) t c (v .moves) refl (λ q. never (cc)) (λ q. never (cc)))
 
 module _
     (start : Table)
@@ -103,21 +100,9 @@ module _
     moves c = told (now c)
       where
         told : Spawn.Now t (v .good) a there e some c → MoveLink start (more ms mark) c (phaseOf after c)
-        told (first q r) =
-            subst
-            (MoveLink start (more ms mark) c)
-            (ap (λ (z : Agent). z .phase) (sym r))
-            (move-idle start (more ms mark) c (Spawning new) refl)
-        told (second q r) =
-            subst
-            (MoveLink start (more ms mark) c)
-            (ap (λ (z : Agent). z .phase) (sym r))
-            (move-idle start (more ms mark) c (Born a) refl)
-        told (neither n m r) =
-            subst
-            (MoveLink start (more ms mark) c)
-            (ap (λ (z : Agent). z .phase) (sym r))
-            (move-same start ms mark t c (v .moves) refl (λ q. never (cc)) (λ q. never (cc)))
+        told (first q r) = move-as r (move-idle start (more ms mark) c (Spawning new) refl)
+        told (second q r) = move-as r (move-idle start (more ms mark) c (Born a) refl)
+        told (neither n m r) = move-as r (move-same start ms mark t c (v .moves) refl (λ q. never (cc)) (λ q. never (cc)))
 
     -- the new agent at its parent's site, and any other where it was
     sites : (c : AgentNo) → siteOf after c ≡ cond (eqb (t .agents) (c .0)) (siteOf t a) (siteOf t c)
@@ -133,10 +118,6 @@ module _
             ∙ at false (ne-eqb (t .agents) (c .0) (λ k. omega (arith, there, ap (λ (z : AgentNo). z .0) q)))
         told (second q r) = ap (λ (z : Agent). z .site) r ∙ at true (eq-eqb (t .agents) (c .0) (ap (λ (z : AgentNo). z .0) (sym q)))
         told (neither n m r) = ap (λ (z : Agent). z .site) r ∙ at false (ne-eqb (t .agents) (c .0) (λ k. m (ap agentNo (sym k))))
-
-    inboxes : (c : AgentNo) → inboxOf after c ≡ inboxOf t c
-    unfolding inboxOf
-    inboxes c = inbox-same t after c (logOf t) (λ m h. (refl, refl))
 
     only : (y : Operation) → EffectAt start (more ms mark) y (length ms) → y ≡ creation a new
     only (creation p c) h = let q : mark ≡ creates p c = sym (at-last ms mark) ∙ h in cc
@@ -186,7 +167,7 @@ module _
         moves
         (mail-same start ms mark t (suc (t .agents)) (after .agent) (t .held) (v .mail) (λ e. omega arith) (λ e. omega arith) (λ e. omega arith))
         (there, refl)
-        (board-created t after a new refl sites inboxes)
+        (board-created t after a new refl sites (inboxes-same t after refl (λ m h. (refl, refl))))
         (at-last ms mark)
         only
         fresh

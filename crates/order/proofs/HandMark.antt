@@ -27,7 +27,7 @@ use Rattle.order.specs.Operations.{Operation, creation, move, message, n
 use Rattle.order.proofs.MarkLaws.{more, at-last, at-snoc}
 use Rattle.order.proofs.Links.{New}
 use Rattle.order.proofs.LinkSteps.{mail-on}
-use Rattle.order.proofs.Places.{taken-old, taken-back}
+use Rattle.order.proofs.Places.{taken-old, taken-there}
 use Rattle.order.proofs.BoardLaws.{board-handed}
 use Rattle.order.proofs.Invariant.{Inv, inv-effect, new-plain, creations-same, move-same}
 use Rattle.order.proofs.MailMarks.{still-closed, status-is}
@@ -103,7 +103,7 @@ module _
         let q : mark ≡ hands (h .0) = sym (at-last ms mark) ∙ h .2 in
         let same : h .0 ≡ m = cc in
         let was : Taken start (more ms mark) m b y = subst (λ (k : MailNo). Taken start (more ms mark) k b y) same (h .1) in
-        let known = v .mail .known m b y (taken-back start ms mark t new m b y there was) in
+        let known = v .mail .known m b y (taken-there start ms mark t new m b y there was) in
         λ i. message (sym (known .1) i) (sym (known .2) i)
 
     fresh : (y : Operation) → In y order → nameOf y ≡ nameOf it → ⊥
@@ -125,7 +125,7 @@ module _
             (h .0)
             (addresseeOf t m)
             (itemOf (messageAt t m))
-            (taken-back start ms mark t new (h .0) (addresseeOf t m) (itemOf (messageAt t m)) (closed .0) (h .1))
+            (taken-there start ms mark t new (h .0) (addresseeOf t m) (itemOf (messageAt t m)) (closed .0) (h .1))
             refl
             refl in
             not-delivered (h .0) same (ap isDelivered (closed .1))

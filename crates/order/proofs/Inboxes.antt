@@ -20,8 +20,8 @@ use Rattle.table.specs.declared.Table.{Table}
 use Rattle.table.specs.Holding.{IsMessage, messageAt, inboxFrom}
 use Rattle.table.specs.Soundness.{Sound}
 use Rattle.table.specs.Steps.{addresseeOf}
+use Rattle.records.proofs.FlagLaws.{and-left, and-right}
 use Rattle.records.proofs.PlaceLaws.{count-hit, count-miss}
-use Rattle.keeping.proofs.Outcomes.{both-true}
 use Rattle.keeping.proofs.Letters.{one-letter}
 use Rattle.order.specs.Lists.{In}
 use Rattle.order.specs.Settled.{timesIn}
@@ -134,8 +134,9 @@ module _ (t : Table) (s : Sound t) (m : MailNo) (here : IsMessage t m) (a : Agen
     where
       other : (b : Bool) → (k .0 ≡ m .0 → ⊥) → alike (itemOf (messageAt t k)) (itemOf (messageAt t m)) ≡ b → b ≡ false
       other true n e =
-          let both = both-true (sameAgent (messageAt t k .sender) (messageAt t m .sender)) (eqb (messageAt t k .number) (messageAt t m .number)) e in
-          let same : k ≡ m = one-letter t s k m there here (ap agentNo (eqb-true _ _ (both .0))) (eqb-true _ _ (both .1)) in
+          let from = eqb-true _ _ (and-left (sameAgent (messageAt t k .sender) (messageAt t m .sender)) _ e) in
+          let number = eqb-true _ _ (and-right (sameAgent (messageAt t k .sender) (messageAt t m .sender)) _ e) in
+          let same : k ≡ m = one-letter t s k m there here (ap agentNo from) number in
           absurd (n (ap (λ (j : MailNo). j .0) same))
       other false n e = refl
 

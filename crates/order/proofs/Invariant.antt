@@ -11,7 +11,7 @@ use Rattle.records.specs.declared.Held.{Held}
 use Rattle.table.specs.declared.Table.{Table}
 use Rattle.table.specs.Holding.{phaseOf}
 use Rattle.keeping.proofs.OneAgent.{Good}
-use Rattle.keeping.proofs.AgentSteps.{withAgents}
+use Rattle.keeping.proofs.AgentSteps.{withAgentsHeld}
 use Rattle.order.specs.Lists.{In}
 use Rattle.order.specs.Marks.{Mark, nothing, creates, greets, asks, leaves, settles, takes, hands, closes, asksOf}
 use Rattle.order.specs.Operations.{Operation, creation, move, message, nameOf, EffectAt, OverAt}
@@ -124,14 +124,14 @@ module _ (first : Table) (ms : List Mark) (x : Mark) where
       → (tagOf x ≡ 2 → ⊥)
       → (tagOf x ≡ 3 → ⊥)
       → (tagOf x ≡ 4 → ⊥)
-      → MailLinks first (more ms x) (withAgents t n l h)
+      → MailLinks first (more ms x) (withAgentsHeld t n l h)
   mail-same t n l h old hand take close =
       mail-on
       first
       ms
       x
       t
-      (withAgents t n l h)
+      (withAgentsHeld t n l h)
       old
       refl
       (λ m. (refl, refl))

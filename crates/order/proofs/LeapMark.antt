@@ -15,7 +15,7 @@ use Rattle.records.specs.declared.Phase.the-variants.{Granted, Landed}
 use Rattle.records.specs.Numbers.{agentNo, sameAgent}
 use Rattle.records.specs.Agents.{withPhase, movedTo}
 use Rattle.table.specs.declared.Table.{Table}
-use Rattle.table.specs.Holding.{IsAgent, agentAt, siteOf, phaseOf, logOf, inboxOf, withAgent}
+use Rattle.table.specs.Holding.{IsAgent, agentAt, siteOf, phaseOf, withAgent}
 use Rattle.keeping.proofs.Places.{Seen, changed, kept, seen-agent}
 use Rattle.keeping.proofs.Locking.{never}
 use Rattle.keeping.proofs.OneAgent.{agent-place}
@@ -27,7 +27,7 @@ use Rattle.order.proofs.MarkLaws.{more, at-last, at-snoc}
 use Rattle.order.proofs.Links.{PendingTo, MoveLink}
 use Rattle.order.proofs.LinkSteps.{move-on}
 use Rattle.order.proofs.Places.{begun-then, counted-back, targets-old, targets-back}
-use Rattle.order.proofs.BoardLaws.{inbox-same, board-moved}
+use Rattle.order.proofs.BoardLaws.{inboxes-same, board-moved}
 use Rattle.order.proofs.Invariant.{Inv, inv-effect, new-plain, creations-same, mail-same}
 use Rattle.order.proofs.OneAgentMarks.{moves-one}
 
@@ -77,10 +77,6 @@ module _
         told : Seen b a landed (agentAt t b) (agentAt after b) → siteOf after b ≡ cond (sameAgent a b) u (siteOf t b)
         told (changed q r) = ap (λ (z : Agent). z .site) r ∙ at true (eq-eqb (a .0) (b .0) (ap (λ (z : AgentNo). z .0) (sym q)))
         told (kept n r) = ap (λ (z : Agent). z .site) r ∙ at false (ne-eqb (a .0) (b .0) (λ q. n (ap agentNo (sym q))))
-
-    inboxes : (b : AgentNo) → inboxOf after b ≡ inboxOf t b
-    unfolding inboxOf
-    inboxes b = inbox-same t after b (logOf t) (λ m h. (refl, refl))
 
     only : (y : Operation) → EffectAt start (more ms mark) y (length ms) → y ≡ move a k u
     only (creation p c) h = let q : mark ≡ creates p c = sym (at-last ms mark) ∙ h in cc
@@ -162,7 +158,7 @@ module _
         (moves-one start ms t order v a there mark landed own (λ b n. (refl, λ q. n (cc), λ q. never (cc))))
         (mail-same start ms mark t (t .agents) (after .agent) (t .held) (v .mail) (λ q. omega arith) (λ q. omega arith) (λ q. omega arith))
         there
-        (board-moved t after a k u refl sites inboxes)
+        (board-moved t after a k u refl sites (inboxes-same t after refl (λ m h. (refl, refl))))
         (targets-old start ms mark a k u target, at-last ms mark, begun-then start ms mark a ∙ begun)
         only
         fresh

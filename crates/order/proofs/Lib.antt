@@ -18,3 +18,4 @@ pub mod Example
 pub mod Inboxes
 pub mod AllSettled
 pub mod Called
+pub mod TurnedAway

@@ -8,6 +8,7 @@ use lib.ListN.{length, take}
 use lib.Seq.{take-length}
 use native.Mathlib.Omega.{arith}
 use Rattle.records.specs.declared.AgentNo.{AgentNo}
+use Rattle.records.specs.declared.Agent.{Agent}
 use Rattle.records.specs.declared.SiteNo.{SiteNo}
 use Rattle.records.specs.declared.MailNo.{MailNo}
 use Rattle.records.specs.declared.Item.{Item}
@@ -24,7 +25,7 @@ use Rattle.order.specs.Marks.{Mark, nothing, creates, greets, asks, leav
 use Rattle.order.specs.Operations.{Targets, Taken}
 use Rattle.order.proofs.MarkLaws.{more, at-last, at-snoc, begun-most, begun-other, begun-asked, begun-less}
 use Rattle.order.proofs.Links.{CreationLinks, PendingTo, MoveLink, MailLinks}
-use Rattle.order.proofs.Places.{begun-then, begun-old, targets-old, targets-back, taken-old}
+use Rattle.order.proofs.Places.{begun-then, begun-old, targets-old, targets-back, taken-old, taken-back}
 
 pub creations-on :
     (ms : List Mark) (x : Mark) (t t′ : Table)
@@ -46,6 +47,10 @@ creations-on ms x t t′ old grows created greeted =
     second : {i : ℕ} (c : AgentNo) → ((i < length ms) × At ms i (greets c)) ⊎ ((i ≡ length ms) × (x ≡ greets c)) → c .0 < t′ .agents
     second {i} c (inl w) = omega (arith, old .greeted i c (w .1))
     second c (inr w) = greeted c (w .1)
+
+-- what is known of an agent's moves is known by its phase alone
+pub move-as : {first : Table} {ms : List Mark} {a : AgentNo} {x y : Agent} → x ≡ y → MoveLink first ms a (y .phase) → MoveLink first ms a (x .phase)
+move-as {first} {ms} {a} e = subst (λ (z : Agent). MoveLink first ms a (z .phase)) (sym e)
 
 -- an agent that is not in a move
 pub move-idle : (first : Table) (ms : List Mark) (a : AgentNo) (p : Phase) → inMove p ≡ false → MoveLink first ms a p
@@ -191,20 +196,12 @@ mail-on first ms x t t′ old count same delivered closed none hand close =
           (sym (same m .1))
           (taken-old first ms x m _ _ (old .taken m (rw count h))));
       known = λ m b y h.
-          let was = old .known m b y (back m b y h) in
+          let was = old .known m b y (taken-back first ms x m b y (none m b y) h) in
           (rw count at (was .0), same m .0 ∙ was .1, same m .1 ∙ was .2);
       handed = λ i m h. told-hand m (at-snoc ms x i (hands m) (λ e. never (cc)) h);
       closed = λ i m h. told-close m (at-snoc ms x i (closes m) (λ e. never (cc)) h);
     }
   where
-    back : (m : MailNo) (b : AgentNo) (y : Item) → Taken first (more ms x) m b y → Taken first ms m b y
-    back m b y (inl h) = inl h
-    back m b y (inr h) = told (at-snoc ms x (h .0) (takes m b y) (λ e. never (cc)) (h .1))
-      where
-        told : ((h .0 < length ms) × At ms (h .0) (takes m b y)) ⊎ ((h .0 ≡ length ms) × (x ≡ takes m b y)) → Taken first ms m b y
-        told (inl w) = inr (h .0, w .1)
-        told (inr w) = absurd (none m b y (w .1))
-
     told-hand :
         {i : ℕ} (m : MailNo)
         → ((i < length ms) × At ms i (hands m)) ⊎ ((i ≡ length ms) × (x ≡ hands m))

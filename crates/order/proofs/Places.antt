@@ -78,20 +78,18 @@ module _ (first : Table) (ms : List Mark) (x : Mark) where
   taken-old m b y (inl h) = inl h
   taken-old m b y (inr h) = inr (h .0, at-old ms x (h .0) (takes m b y) (λ e. never (cc)) (h .1))
 
-  -- a message that is there was not taken at the new place
-  pub taken-back :
-      (t : Table)
-      → New t x
-      → (m : MailNo) (b : AgentNo) (y : Item)
-      → IsMessage t m
-      → Taken first (more ms x) m b y
-      → Taken first ms m b y
-  taken-back t new m b y here (inl h) = inl h
-  taken-back t new m b y here (inr h) = told (at-snoc ms x (h .0) (takes m b y) (λ e. never (cc)) (h .1))
+  -- a message that the new mark does not take was taken before it
+  pub taken-back : (m : MailNo) (b : AgentNo) (y : Item) → (x ≡ takes m b y → ⊥) → Taken first (more ms x) m b y → Taken first ms m b y
+  taken-back m b y other (inl h) = inl h
+  taken-back m b y other (inr h) = told (at-snoc ms x (h .0) (takes m b y) (λ e. never (cc)) (h .1))
     where
       told : ((h .0 < length ms) × At ms (h .0) (takes m b y)) ⊎ ((h .0 ≡ length ms) × (x ≡ takes m b y)) → Taken first ms m b y
       told (inl w) = inr (h .0, w .1)
-      told (inr w) = absurd (new .take m b y (w .1) m here .0 refl)
+      told (inr w) = absurd (other (w .1))
+
+  -- and one that was there is not taken anew
+  pub taken-there : (t : Table) → New t x → (m : MailNo) (b : AgentNo) (y : Item) → IsMessage t m → Taken first (more ms x) m b y → Taken first ms m b y
+  taken-there t new m b y here = taken-back m b y (λ e. new .take m b y e m here .0 refl)
 
   -- what had its effect has had it
   pub effect-old : (y : Operation) (i : ℕ) → EffectAt first ms y i → EffectAt first (more ms x) y i
@@ -114,11 +112,11 @@ module _ (first : Table) (ms : List Mark) (x : Mark) (t : Table) (links : MailLi
       (targets-back first ms x a k u i (then .1) (h .0), then .0, then .1)
   effect-back (message b y) i low h =
       let then : At ms i (hands (h .0)) = sym (at-keeps ms x i low) ∙ h .2 in
-      (h .0, taken-back first ms x t new (h .0) b y (links .handed i (h .0) then .0) (h .1), then)
+      (h .0, taken-there first ms x t new (h .0) b y (links .handed i (h .0) then .0) (h .1), then)
 
   pub over-back : (y : Operation) (i : ℕ) → i < length ms → OverAt first (more ms x) y i → OverAt first ms y i
   over-back (creation p c) i low h = sym (at-keeps ms x i low) ∙ h
   over-back (move a k u) i low h = counted-back first ms x i a (settles a) (suc k) low h
   over-back (message b y) i low h =
       let then : At ms i (closes (h .0)) = sym (at-keeps ms x i low) ∙ h .2 in
-      (h .0, taken-back first ms x t new (h .0) b y (links .closed i (h .0) then .0) (h .1), then)
+      (h .0, taken-there first ms x t new (h .0) b y (links .closed i (h .0) then .0) (h .1), then)

@@ -76,7 +76,7 @@ not-done AlreadyOpen n = refl
 not-done BadState n = refl
 
 step-on : (start : Table) (ms : List Mark) (t : Table) (s : Step) (r : Answer) → Reached start ms t → Outcome t s r → Reached start (more ms (markOf s r)) (r .table)
-step-on start ms t s r v (stayed same code) =
+step-on start ms t s r v (stayed same code number below) =
     subst
     (λ (b : Bool). Reached start (more ms (cond b (markDone s (r .number)) nothing)) (r .table))
     (sym (not-done (r .code) code))

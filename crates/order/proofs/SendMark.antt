@@ -1,6 +1,6 @@
 -- send: a message begins.
 use Prim.Native.Nat.{ℕ, suc, _<_}
-use mathlib.Core.Path.{_≡_, refl, ap, sym, _∙_, subst}
+use mathlib.Core.Path.{_≡_, refl, ap, sym, _∙_}
 use mathlib.Core.Logic.{_⊎_, inl, inr}
 use mathlib.Core.List.{List}
 use lib.ListN.{take}
@@ -12,21 +12,20 @@ use Rattle.records.specs.declared.MailNo.{MailNo}
 use Rattle.records.specs.declared.Item.{Item}
 use Rattle.records.specs.declared.Message.{Message}
 use Rattle.records.specs.Numbers.{mailNo}
-use Rattle.records.specs.Messages.{itemOf, emptyEntry}
+use Rattle.records.specs.Messages.{itemOf}
 use Rattle.table.specs.declared.Table.{Table}
-use Rattle.table.specs.Holding.{mostMessages, IsAgent, IsMessage, phaseOf, messageAt, logOf, nextMessage, withNewMessage}
+use Rattle.table.specs.Holding.{mostMessages, IsAgent, IsMessage, phaseOf, messageAt, nextMessage, withNewMessage}
 use Rattle.table.specs.Steps.{sentBy, newMessage}
 use Rattle.keeping.proofs.Places.{Seen, changed, kept, seen-message}
 use Rattle.keeping.proofs.Families.{ChildOf}
 use Rattle.keeping.proofs.Locking.{never}
 use Rattle.keeping.proofs.Send.{send-good}
 use Rattle.keeping.proofs.Letters.{number-below}
-use Rattle.order.specs.Lists.{In}
 use Rattle.order.specs.Marks.{Mark, takes}
 use Rattle.order.specs.Operations.{Operation}
 use Rattle.order.proofs.MarkLaws.{more}
 use Rattle.order.proofs.LinkSteps.{mail-taken}
-use Rattle.order.proofs.BoardLaws.{in-take, board-same}
+use Rattle.order.proofs.BoardLaws.{logged-there, board-same}
 use Rattle.order.proofs.Invariant.{Inv, inv-quiet, creations-same, move-same}
 
 module _
@@ -95,11 +94,6 @@ module _
           next,
         )
 
-    logged : (k : MailNo) → In k (logOf t) → IsMessage t k
-    logged k h =
-        let at = in-take (t .handed) (t .log) emptyEntry k h in
-        subst (IsMessage t) (at .2) (v .good .1 .log .only (at .0) (at .1) .0)
-
     pub send-on : Inv start (more ms mark) after order
     send-on =
         inv-quiet
@@ -136,5 +130,5 @@ module _
         (omega arith)
         (ap (λ (y : Message). takes new (y .addressee) (itemOf y)) (sym new-message)))
         (board-same t after refl (λ c. refl) refl (λ k h.
-        let same = old-message k (logged k h) in
+        let same = old-message k (logged-there t (v .good .1) k h) in
         (ap (λ (y : Message). y .addressee) (same .1), ap itemOf (same .1))))

@@ -1,1 +1,5 @@
 pub mod Printed
+pub mod Values
+pub mod Fits
+pub mod Room
+pub mod InOrder

@@ -8,7 +8,6 @@ use lib.ListN.{length, drop}
 use lib.Dec.{ltb, leb, eqb}
 use Rattle.records.specs.declared.Code.the-variants.{Done, BadCount}
 use Rattle.records.specs.Codes.{codeNumber}
-use Rattle.table.specs.declared.Table.{Table}
 use Rattle.table.specs.Holding.{Shaped, mostSites, noTable}
 use Rattle.table.specs.Answers.{done, unless}
 use Rattle.table.specs.Soundness.{Sound}
@@ -25,7 +24,7 @@ opening-done : (n : ℕ) (b : Bool) → eqb (codeNumber (unless b BadCount noTab
 opening-done n true h = refl
 opening-done n false h = absurd (false≢true h)
 
-opens : (n : ℕ) → eqb (codeNumber (openOf n .code)) 0 ≡ true → openOf n .code ≡ Done
+pub opens : (n : ℕ) → eqb (codeNumber (openOf n .code)) 0 ≡ true → openOf n .code ≡ Done
 unfolding openOf
 opens n h = opening-done n (ltb 0 n && leb n mostSites) h
 

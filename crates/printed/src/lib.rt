@@ -1,1 +1,1 @@
-// What the script program prints, from the steps' keeping of soundness: laws alone, no code.
+// What the script program prints, and how long it is at most, from the steps' keeping of soundness: laws alone, no code.

@@ -1,6 +1,6 @@
 -- Tests joined, taken apart and put together.
 use mathlib.Core.Path.{_≡_, refl, ap, _∙_}
-use mathlib.Core.Logic.{_⊎_, inl, inr}
+use mathlib.Core.Logic.{_⊎_, inl, inr, ⊎-elim}
 use mathlib.Core.Bool.{Bool, true, false, not, _&&_, _||_, Bool·beq, false≢true}
 use Rattle.records.specs.Places.{implies}
 
@@ -29,6 +29,9 @@ or-right false p = p
 pub not-cases : (a : Bool) → (a ≡ true) ⊎ (a ≡ false)
 not-cases true = inl refl
 not-cases false = inr refl
+
+pub by-test {ℓ} : (a : Bool) {P : Type ℓ} → (a ≡ true → P) → (a ≡ false → P) → P
+by-test a passed failed = ⊎-elim passed failed (not-cases a)
 
 pub false-not : (a : Bool) → (a ≡ true → ⊥) → a ≡ false
 false-not true h = absurd (h refl)

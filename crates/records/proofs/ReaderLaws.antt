@@ -20,7 +20,7 @@ use Rattle.records.specs.declared.Lock.the-variants.{Unheld, ForMove, Fo
 use Rattle.records.specs.Numbers.{agentNo, siteNo, mailNo, sameAgent, sameSite, sameMail}
 use Rattle.records.specs.Agents.{phaseKind, isFree, isBorn, isEnrolled, isGranted, isLanded, isChild, isMoving, peerOf, targetOf, isMapped, mapSite, emptyAgent, isEmptyAgent}
 use Rattle.records.specs.Messages.{statusKind, isOut, isHanded, isClosed, isUnderWay, isDelivered, travelsTo}
-use Rattle.records.specs.Locks.{heldForMove, heldForMail}
+use Rattle.records.specs.Locks.{isUnheld, heldForMove, heldForMail}
 use Rattle.records.proofs.FlagLaws.{and-left, and-right, or-cases, or-left, or-right}
 
 -- numbers of one kind that compare equal are the same
@@ -141,7 +141,12 @@ delivered-is x h =
 pub is-delivered : (x : Status) → (x ≡ Handed) ⊎ (x ≡ Closed) → isDelivered x ≡ true
 is-delivered x = ⊎-elim (λ e. or-left (isClosed x) (ap isHanded e)) (λ e. or-right (isHanded x) (ap isClosed e))
 
--- the lock is held for what it names
+-- the lock is free, or held for what it names
+pub unheld-is : (l : Lock) → isUnheld l ≡ true → l ≡ Unheld
+unheld-is Unheld h = refl
+unheld-is (ForMove a) h = absurd (false≢true h)
+unheld-is (ForMail m) h = absurd (false≢true h)
+
 pub held-move-is : (l : Lock) (a : AgentNo) → heldForMove l a ≡ true → l ≡ ForMove a
 held-move-is Unheld a h = absurd (false≢true h)
 held-move-is (ForMove b) a h = ap ForMove (same-agent b a h)

@@ -1,33 +1,18 @@
 // Scripts that are wrong in one way or another, each printed under a heading with what it comes to.
-ghost use lib.ListN.{length};
-ghost use mathlib.Core.Path.{_≡_};
+use console::input_room;
+use console::print;
 use libc::STDOUT_FILENO;
-use script::running::run;
-
-fn print(script: &[u8], output: &mut [u8]) {
-    let length = run(script, output);
-    if length <= output.len() {
-        io::write_all(STDOUT_FILENO, &output[..length]);
-    }
-}
 
 fn report(name: &[u8], script: &[u8]) {
-    let mut output = io::buffer();
     io::write_all(STDOUT_FILENO, name);
-    print(script, &mut output);
+    print(script);
 }
 
-fn one_byte_more() -> [u8; 65537]
-    ensures { λ r. ⌜ 65537 ≡ length r ⌝ }
-{
-    [0; 65537]
-}
-
-// The longest script that still runs, and one byte more.
+// The longest script that still runs, and one byte more, which is the room for a script.
 fn report_lengths() {
     let longest = io::large_buffer();
     report(b"-- 65536 bytes\n", &longest);
-    let longer = one_byte_more();
+    let longer = input_room();
     report(b"-- 65537 bytes\n", &longer);
 }
 

@@ -1,18 +1,13 @@
 -- How the test of a list, or of the places below a number, goes on by one place: what the loops' invariants rest on.
 use Prim.Native.Nat.{ℕ, suc, _+_, _≤_, _<_}
-use mathlib.Core.Bool.{Bool, true, false, _&&_, and-assoc, and-true}
+use mathlib.Core.Bool.{Bool, _&&_, and-assoc, and-true}
 use mathlib.Core.List.{List}
-use mathlib.Core.Path.{_≡_, refl, sym, _∙_}
+use mathlib.Core.Path.{_≡_, sym, _∙_}
 use native.Mathlib.Numerals.{add-one}
 use native.Mathlib.Omega.{arith}
 use lib.ListN.{length, getD, drop, drop-of-length-le}
 use lib.Seq.{drop-cons}
 use Rattle.records.specs.Places.{allOf, allBelow}
-
--- a test passes or it does not
-pub by-test {ℓ} : (t : Bool) {P : Type ℓ} → (t ≡ true → P) → (t ≡ false → P) → P
-by-test true passed failed = passed refl
-by-test false passed failed = failed refl
 
 -- the flag of a loop over a list's room takes in one more element
 pub room-on {ℓ} : {A : Type ℓ} (f : A → Bool) (l : List A) (d : A) (n i : ℕ) (fine next : Bool) → i < length l → allOf f (drop n l) ≡ (fine && allOf f (drop i l)) → next ≡ (fine && f (getD l i d)) → allOf f (drop n l) ≡ (next && allOf f (drop (i + 1) l))

@@ -18,7 +18,7 @@ use Rattle.records.specs.Messages.{isOut, isLost, isUnderWay, travelsTo}
 use Rattle.records.specs.Locks.{heldForMove, heldForMail}
 use Rattle.records.specs.Places.{implies}
 use Rattle.soundness.specs.Tests.{agentSites, family, mapRight, agentFine, messageFine, agentIn, partyIn, statusIn}
-use Rattle.soundness.proofs.Laws.{by-test}
+use Rattle.records.proofs.FlagLaws.{by-test}
 
 -- the agent at a place is the one with that number, where the number is below 64
 placed : (agent : List Agent) (a : AgentNo) (agents p : ℕ) → agents ≤ 64 → (a .0 < 64 → p ≡ a .0) → a .0 < agents → getD agent p emptyAgent ≡ agentIn agent a

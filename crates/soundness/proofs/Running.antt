@@ -13,7 +13,7 @@ use Rattle.records.specs.declared.MailNo.{MailNo}
 use Rattle.records.specs.declared.Stand.{Stand}
 use Rattle.records.specs.Numbers.{mailNo}
 use Rattle.soundness.specs.Tests.{partyIn, entryIn, numbersRun, delivered, logRuns}
-use Rattle.soundness.proofs.Laws.{by-test}
+use Rattle.records.proofs.FlagLaws.{by-test}
 
 -- every message is still to come at the start
 pub numbers-start : (sender : List AgentNo) (number : List ℕ) (m : ℕ) (counts : List ℕ) → numbersRun sender number m 0 counts ≡ numbersRun sender number (m - 0) 0 counts

@@ -17,13 +17,13 @@ use Rattle.records.specs.declared.Mapped.the-variants.{Nowhere}
 use Rattle.records.specs.declared.Status.{Status}
 use Rattle.records.specs.declared.Status.the-variants.{Queued, Out, Handed}
 use Rattle.records.specs.declared.Lock.{Lock}
-use Rattle.records.specs.declared.Lock.the-variants.{Unheld, ForMove, ForMail}
+use Rattle.records.specs.declared.Lock.the-variants.{Unheld}
 use Rattle.records.specs.declared.Code.{Code}
 use Rattle.records.specs.Agents.{isFree, isBorn, isEnrolled, isAsking, isGranted, isLanded, isBooked, isChild, isMapped, peerOf, targetOf}
 use Rattle.records.specs.Messages.{isQueued, isOut, isHanded, travelsTo}
 use Rattle.records.specs.Locks.{isUnheld}
 use Rattle.records.proofs.FlagLaws.{false-not, not-cases, not-passes, not-fails, and-left, and-right, and-both}
-use Rattle.records.proofs.ReaderLaws.{phase-is, status-is, unmapped-is, child-is, is-child}
+use Rattle.records.proofs.ReaderLaws.{phase-is, status-is, unmapped-is, child-is, is-child, unheld-is}
 use Rattle.table.specs.declared.Table.{Table}
 use Rattle.table.specs.declared.Answer.{Answer}
 use Rattle.table.specs.Holding.{phaseOf}
@@ -144,11 +144,6 @@ pub not-handed : (s : Status) → Refutes (s ≡ Handed → ⊥) (isHanded s)
 not-handed s = refutes (isHanded s) (λ n h. n (status-is 2 s h)) (λ f e. f (ap isHanded e))
 
 -- the lock is held, and an agent is not in the map
-unheld-is : (l : Lock) → isUnheld l ≡ true → l ≡ Unheld
-unheld-is Unheld h = refl
-unheld-is (ForMove a) h = absurd (false≢true h)
-unheld-is (ForMail m) h = absurd (false≢true h)
-
 pub lock-held : (l : Lock) → Refutes (l ≡ Unheld → ⊥) (isUnheld l)
 lock-held l = refutes (isUnheld l) (λ n h. n (unheld-is l h)) (λ f e. f (ap isUnheld e))
 

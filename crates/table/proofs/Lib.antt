@@ -9,10 +9,9 @@ pub mod CodeRows
 pub mod Codes
 pub mod Retry
 pub mod SendCodes
-pub mod Refusals
 pub mod Openings
 pub mod Slips
-pub mod Changed
+pub mod InTurn
 pub mod Moved
 pub mod Created
 pub mod Delivered

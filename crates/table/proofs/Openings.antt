@@ -22,6 +22,9 @@ opened-test : (n : ℕ) → leb 1 n ≡ true → leb n 16 ≡ true → soundTest
 unfolding soundTest
 opened-test n h k = rw (h, k)
 
+pub opened-sound : (n : ℕ) → 1 ≤ n → n ≤ mostSites → Sound (opened n)
+opened-sound n low high = sound-from (opened n) (opened-test n (le-leb 1 n low) (le-leb n mostSites high))
+
 pub opening-sound : (n : ℕ) → Sound (openOf n .table) ↔ ((1 ≤ n) × (n ≤ mostSites))
 unfolding openOf
 opening-sound n = (
@@ -36,5 +39,5 @@ opening-sound n = (
       subst
       (λ (b : Bool). Sound (unless b BadCount noTable (done (opened n) 0) .table))
       (sym (and-both (le-leb 1 n (r .0)) (le-leb n mostSites (r .1))))
-      (sound-from (opened n) (opened-test n (le-leb 1 n (r .0)) (le-leb n 16 (r .1)))),
+      (opened-sound n (r .0) (r .1)),
 )

@@ -15,7 +15,7 @@ use Rattle.records.specs.declared.Stand.{Stand}
 use Rattle.records.specs.declared.Status.the-variants.{Queued}
 use Rattle.records.specs.Messages.{standing, emptyEntry}
 use Rattle.soundness.specs.Tests.{partyIn, entryIn}
-use Rattle.soundness.proofs.Laws.{by-test}
+use Rattle.records.proofs.FlagLaws.{by-test}
 use Rattle.table.specs.declared.Table.{Table}
 use Rattle.table.specs.declared.AgentRead.the-variants as agents
 use Rattle.table.specs.declared.MessageRead.the-variants as messages

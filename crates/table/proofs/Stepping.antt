@@ -1,7 +1,8 @@
 -- A step is its rule behind the soundness test, and a table that has passed the test has counts within its arrays.
-use mathlib.Core.Path.{_≡_, refl, _∙_, sym}
-use mathlib.Core.Bool.{Bool, true, false, _&&_}
+use mathlib.Core.Path.{_≡_, _∙_, sym}
+use mathlib.Core.Bool.{Bool, true}
 use Rattle.records.specs.declared.Code.the-variants.{BadState}
+use Rattle.records.proofs.FlagLaws.{and-left}
 use Rattle.soundness.specs.Tests.{partsSound}
 use Rattle.soundness.proofs.Limits.{Limits, limits}
 use Rattle.table.specs.declared.Table.{Table}
@@ -17,13 +18,9 @@ unfolding stepOf
 step-by t s tested answer = rw tested at answer
 
 -- the first part of the test is the counts'
-counts-pass : (a b : Bool) → (a && b) ≡ true → a ≡ true
-counts-pass true b h = refl
-counts-pass false b h = h
-
 test-limits : (t : Table) → soundTest t ≡ true → Limits (t .agents) (t .messages) (t .handed)
 unfolding soundTest partsSound
-test-limits t passed = limits (t .sites) (t .agents) (t .messages) (t .handed) (counts-pass _ _ passed)
+test-limits t passed = limits (t .sites) (t .agents) (t .messages) (t .handed) (and-left _ _ passed)
 
 pub test-fits : (t : Table) {sound : Bool} → sound ≡ soundTest t → FitIfSound sound t
 test-fits t tested passed =

@@ -5,7 +5,7 @@ use mathlib.Core.Bool.{Bool, true, false}
 use native.Mathlib.Numerals.{add-one}
 use native.Mathlib.Omega.{arith}
 use lib.Dec.{eqb}
-use lib.ListN.{getD}
+use lib.ListN.{getD, set}
 use borrow.Author.Tests.{lt-ltb, le-ltb, le-leb, lt-leb, eq-eqb, ne-eqb}
 use Rattle.records.specs.declared.AgentNo.{AgentNo}
 use Rattle.records.specs.declared.MailNo.{MailNo}
@@ -19,10 +19,10 @@ use Rattle.records.specs.Agents.{phaseKind}
 use Rattle.records.specs.Messages.{standing}
 use Rattle.table.specs.declared.Table.{Table}
 use Rattle.table.specs.declared.Answer.{Answer}
-use Rattle.table.specs.Holding.{agentAt}
+use Rattle.table.specs.Holding.{agentAt, withMessages}
 use Rattle.table.specs.Answers.{done, refuse, repeated, unless}
 use Rattle.table.specs.Steps.{sentBy, takeNew, findSent, addresseeOf, retry, byNumber, sendRule}
-use Rattle.table.proofs.Changed.{takenIn, off-phase}
+use Rattle.table.proofs.InTurn.{off-phase}
 
 -- whether a number is the next one after those that were counted
 is-next : (k n : ℕ) {sent : ℕ} → sent ≡ k → n ≡ sent + 1 → eqb n (suc k) ≡ true
@@ -31,6 +31,17 @@ is-next k n {sent} counted next = eq-eqb n (suc k) (next ∙ (add-one sent ∙ a
 not-next : (k n : ℕ) {sent : ℕ} → sent ≡ k → (n ≡ sent + 1 → ⊥) → eqb n (suc k) ≡ false
 not-next k n {sent} counted other =
     ne-eqb n (suc k) (λ next. other (next ∙ (ap suc (sym counted) ∙ sym (add-one sent))))
+
+-- the table with one more message, as the code makes it
+abbrev pub takenIn : Table → AgentNo → ℕ → AgentNo → ℕ → Stand → Table
+takenIn t a n b v stand =
+    withMessages t
+    (t .messages + 1)
+    (set (t .sender) (t .messages) a)
+    (set (t .number) (t .messages) n)
+    (set (t .addressee) (t .messages) b)
+    (set (t .value) (t .messages) v)
+    (set (t .status) (t .messages) stand)
 
 module _ (t : Table) (a : AgentNo) (n : ℕ) (b : AgentNo) (v : ℕ) {r : Answer} where
   -- a new message

@@ -15,6 +15,8 @@ use Rattle.records.specs.declared.Message.{Message}
 use Rattle.records.specs.declared.Status.{Status}
 use Rattle.records.specs.declared.Status.the-variants.{Queued}
 use Rattle.records.specs.declared.Item.{Item}
+use Rattle.records.specs.declared.Stand.{Stand}
+use Rattle.records.specs.declared.Held.{Held}
 use Rattle.records.specs.declared.Lock.{Lock}
 use Rattle.records.specs.declared.Lock.the-variants.{Unheld}
 use Rattle.records.specs.Numbers.{agentNo, mailNo, sameAgent}
@@ -128,16 +130,16 @@ noTable =
       log = replicate 512 emptyEntry;
     }
 
--- the same table with another record for one agent
-abbrev pub withAgent : Table → AgentNo → Agent → Table
-withAgent t a x =
+-- What a step changes it makes anew in one of four ways, and whatever that way does not name is as it was: the agents,
+abbrev pub withAgents : Table → ℕ → List Agent → Table
+withAgents t count agent =
     record {
       sites = t .sites;
-      agents = t .agents;
+      agents = count;
       messages = t .messages;
       handed = t .handed;
       held = t .held;
-      agent = set (t .agent) (a .0) x;
+      agent = agent;
       sender = t .sender;
       number = t .number;
       addressee = t .addressee;
@@ -145,63 +147,82 @@ withAgent t a x =
       status = t .status;
       log = t .log;
     }
+
+-- the lock,
+abbrev pub withHeld : Table → Held → Table
+withHeld t held =
+    record {
+      sites = t .sites;
+      agents = t .agents;
+      messages = t .messages;
+      handed = t .handed;
+      held = held;
+      agent = t .agent;
+      sender = t .sender;
+      number = t .number;
+      addressee = t .addressee;
+      value = t .value;
+      status = t .status;
+      log = t .log;
+    }
+
+-- the messages,
+abbrev pub withMessages : Table → ℕ → List AgentNo → List ℕ → List AgentNo → List ℕ → List Stand → Table
+withMessages t count sender number addressee value status =
+    record {
+      sites = t .sites;
+      agents = t .agents;
+      messages = count;
+      handed = t .handed;
+      held = t .held;
+      agent = t .agent;
+      sender = sender;
+      number = number;
+      addressee = addressee;
+      value = value;
+      status = status;
+      log = t .log;
+    }
+
+-- the log
+abbrev pub withLog : Table → ℕ → List MailNo → Table
+withLog t count log =
+    record {
+      sites = t .sites;
+      agents = t .agents;
+      messages = t .messages;
+      handed = count;
+      held = t .held;
+      agent = t .agent;
+      sender = t .sender;
+      number = t .number;
+      addressee = t .addressee;
+      value = t .value;
+      status = t .status;
+      log = log;
+    }
+
+-- the same table with another record for one agent
+abbrev pub withAgent : Table → AgentNo → Agent → Table
+withAgent t a x = withAgents t (t .agents) (set (t .agent) (a .0) x)
 
 -- the number of the next agent, and the same table with a record for it
 abbrev pub nextAgent : Table → AgentNo
 nextAgent t = agentNo (t .agents)
 
 abbrev pub withNewAgent : Table → Agent → Table
-withNewAgent t x =
-    record {
-      sites = t .sites;
-      agents = suc (t .agents);
-      messages = t .messages;
-      handed = t .handed;
-      held = t .held;
-      agent = set (t .agent) (t .agents) x;
-      sender = t .sender;
-      number = t .number;
-      addressee = t .addressee;
-      value = t .value;
-      status = t .status;
-      log = t .log;
-    }
+withNewAgent t x = withAgents t (suc (t .agents)) (set (t .agent) (t .agents) x)
 
 -- the same table with the lock in another state
 abbrev pub withLock : Table → Lock → Table
-withLock t l =
-    record {
-      sites = t .sites;
-      agents = t .agents;
-      messages = t .messages;
-      handed = t .handed;
-      held = holding l;
-      agent = t .agent;
-      sender = t .sender;
-      number = t .number;
-      addressee = t .addressee;
-      value = t .value;
-      status = t .status;
-      log = t .log;
-    }
+withLock t l = withHeld t (holding l)
 
--- the same table with another status for one message
+-- the same table with other statuses, and with another status for one message
+abbrev pub withStatuses : Table → List Stand → Table
+withStatuses t status = withMessages t (t .messages) (t .sender) (t .number) (t .addressee) (t .value) status
+
 abbrev pub withStatus : Table → MailNo → Status → Table
-withStatus t m s =
-    record {
-      sites = t .sites;
-      agents = t .agents;
-      messages = t .messages;
-      handed = t .handed;
-      held = t .held;
-      agent = t .agent;
-      sender = t .sender;
-      number = t .number;
-      addressee = t .addressee;
-      value = t .value;
-      status = set (t .status) (m .0) (standing s);
-      log = t .log;
-    }
+withStatus t m s = withStatuses t (set (t .status) (m .0) (standing s))
 
 -- the number of the next message, and the same table with that message
 abbrev pub nextMessage : Table → MailNo
@@ -209,35 +230,14 @@ nextMessage t = mailNo (t .messages)
 
 abbrev pub withNewMessage : Table → Message → Table
 withNewMessage t x =
-    record {
-      sites = t .sites;
-      agents = t .agents;
-      messages = suc (t .messages);
-      handed = t .handed;
-      held = t .held;
-      agent = t .agent;
-      sender = set (t .sender) (t .messages) (x .sender);
-      number = set (t .number) (t .messages) (x .number);
-      addressee = set (t .addressee) (t .messages) (x .addressee);
-      value = set (t .value) (t .messages) (x .value);
-      status = set (t .status) (t .messages) (standing (x .status));
-      log = t .log;
-    }
+    withMessages t
+    (suc (t .messages))
+    (set (t .sender) (t .messages) (x .sender))
+    (set (t .number) (t .messages) (x .number))
+    (set (t .addressee) (t .messages) (x .addressee))
+    (set (t .value) (t .messages) (x .value))
+    (set (t .status) (t .messages) (standing (x .status)))
 
 -- the same table with one more message in the log
 abbrev pub withLogged : Table → MailNo → Table
-withLogged t m =
-    record {
-      sites = t .sites;
-      agents = t .agents;
-      messages = t .messages;
-      handed = suc (t .handed);
-      held = t .held;
-      agent = t .agent;
-      sender = t .sender;
-      number = t .number;
-      addressee = t .addressee;
-      value = t .value;
-      status = t .status;
-      log = set (t .log) (t .handed) m;
-    }
+withLogged t m = withLog t (suc (t .handed)) (set (t .log) (t .handed) m)

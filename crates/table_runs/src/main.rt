@@ -1,4 +1,5 @@
-// Runs the plan's steps one after the other and prints what each answers, as CODE,NUMBER. The stored output was worked out from document 01.
+// Runs the plan's steps one after the other and prints what each answers, as CODE,NUMBER; then what is read of a short session's tables. The
+// stored output was worked out from document 01.
 use libc::STDOUT_FILENO;
 use records::AgentNo;
 use records::Code;
@@ -9,6 +10,7 @@ use table::Answer;
 use table::Table;
 
 mod plan;
+mod reading;
 
 // A table that the plan asks for in one go.
 fn given(t: Table) -> Answer {
@@ -80,4 +82,5 @@ fn main() {
         t = r.table;
         i += 1;
     }
+    reading::show();
 }

@@ -30,10 +30,10 @@ use Rattle.written.specs.Rows.{lockLine, countLines, agentRow, messageRo
 use Rattle.written.proofs.Decimals.{decimal-length, decimal-at-most-ten}
 use Rattle.written.proofs.Parts.{table-parts}
 
-two-digits : (n : ℕ) → n ≤ 99 → length (decimal n) ≤ 2
+pub two-digits : (n : ℕ) → n ≤ 99 → length (decimal n) ≤ 2
 two-digits n h = decimal-length 1 n (omega arith)
 
-three-digits : (n : ℕ) → n ≤ 999 → length (decimal n) ≤ 3
+pub three-digits : (n : ℕ) → n ≤ 999 → length (decimal n) ≤ 3
 three-digits n h = decimal-length 2 n (omega arith)
 
 phase-word-length : (p : Phase) → length (phaseWord p) ≤ 8
@@ -86,7 +86,7 @@ lock-length (ForMail x) a m = omega (arith, three-digits (x .0) (m x refl))
 line-length : (key value : List ℕ) → length (line key value) ≡ length key + length value + 2
 line-length key value = simp length-append (omega arith)
 
-row-length : (key : List ℕ) (i : ℕ) (value : List ℕ)
+pub row-length : (key : List ℕ) (i : ℕ) (value : List ℕ)
     → length (row key i value) ≡ length key + length (decimal i) + length value + 3
 row-length key i value = simp length-append (omega arith)
 

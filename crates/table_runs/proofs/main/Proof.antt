@@ -61,6 +61,9 @@ loop-less c = search needs
 loop-again : tie.Need-loop-again Inv-loop μ-loop
 loop-again c = search needs
 
+show-requires : tie.Need-show-requires Inv-loop μ-loop
+show-requires c κs = search needs
+
 returns : tie.Need-returns Inv-loop μ-loop
 returns c = search needs
 
@@ -87,4 +90,5 @@ main-spec =
     add-i
     loop-less
     loop-again
+    show-requires
     returns)

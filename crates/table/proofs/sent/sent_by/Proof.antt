@@ -4,7 +4,7 @@ use mathlib.Core.Path.{_≡_, refl}
 use borrow.Author.Tests.{eq-eqb, ne-eqb}
 use native.Mathlib.Omega.{arith}
 use Rattle.records.specs.Places.{countBelow}
-use Rattle.table.proofs.Looking.{takenFrom, count-hit, count-miss, count-end, count-le}
+use Rattle.table.proofs.Looking.{takenFrom, count-one, count-none, count-end, count-le}
 use borrow.Author.Needs.{needs}
 use Rattle.table.proofs.sent.sent_by.Statement.{statement}
 use Rattle.table.proofs.sent.sent_by.Tie as tie
@@ -38,13 +38,13 @@ loop-less : tie.Need-loop-less Inv-loop μ-loop
 loop-less c = omega arith
 
 loop-again : tie.Need-loop-again Inv-loop μ-loop
-loop-again c = (omega arith, count-hit (takenFrom (c .before .before .before .before .before .before .args .t2) (c .before .before .before .before .before .before .args .a)) (c .before .before .before .before .before .loop .i) (c .before .before .before .before .before .loop .count) (c .before .before .before .before .before .loop .inv .1) (eq-eqb _ _ (c .if1 .taken)))
+loop-again c = (omega arith, count-one (takenFrom (c .before .before .before .before .before .before .args .t2) (c .before .before .before .before .before .before .args .a)) (c .before .before .before .before .before .loop .i) (c .before .before .before .before .before .loop .count) (c .before .before .before .before .before .loop .inv .1) (eq-eqb _ _ (c .if1 .taken)))
 
 loop-less-2 : tie.Need-loop-less-2 Inv-loop μ-loop
 loop-less-2 c = omega arith
 
 loop-again-2 : tie.Need-loop-again-2 Inv-loop μ-loop
-loop-again-2 c = (omega arith, count-miss (takenFrom (c .before .before .before .before .before .before .args .t2) (c .before .before .before .before .before .before .args .a)) (c .before .before .before .before .before .loop .i) (c .before .before .before .before .before .loop .count) (c .before .before .before .before .before .loop .inv .1) (ne-eqb _ _ (c .if1 .left)))
+loop-again-2 c = (omega arith, count-none (takenFrom (c .before .before .before .before .before .before .args .t2) (c .before .before .before .before .before .before .args .a)) (c .before .before .before .before .before .loop .i) (c .before .before .before .before .before .loop .count) (c .before .before .before .before .before .loop .inv .1) (ne-eqb _ _ (c .if1 .left)))
 
 returns : tie.Need-returns Inv-loop μ-loop
 returns c = count-end (takenFrom (c .before .before .args .t2) (c .before .before .args .a)) (c .before .before .args .messages) (c .before .loop .i) (c .before .loop .count) (c .before .loop .inv .0) (c .loop-test .left) (c .before .loop .inv .1)
