@@ -1,4 +1,3 @@
-pub mod AnswerParts
 pub mod Digits
 pub mod LineEnds
 pub mod LineKinds

@@ -1,6 +1,6 @@
 -- A run into a buffer that is long enough puts the program's output there, byte for byte, as long as every table that the script comes
 -- to is sound. What keeps tables sound is taken as given here, in the form in which it is proved of the steps.
-use Prim.Native.Nat.{ℕ, suc, _+_, _≤_}
+use Prim.Native.Nat.{ℕ, suc, _+_, _≤_, zero-le}
 use native.Mathlib.Nat.{zero-add, add-assoc}
 use native.Mathlib.Omega.{arith}
 use mathlib.Core.Path.{_≡_, refl, sym, ap, ap₂, _∙_, subst}
@@ -18,7 +18,7 @@ use Rattle.table.specs.Steps.{openOf, stepOf}
 use Rattle.written.specs.Decimal.{bytes}
 use Rattle.written.specs.Text.{written}
 use Rattle.written.specs.Writing.{Wrote, wroteText, writeOf}
-use Rattle.written.proofs.Placing.{sets-then}
+use Rattle.written.proofs.Placing.{sets-then, place-within}
 use Rattle.script.specs.declared.Line.{Line}
 use Rattle.script.specs.declared.Line.the-variants.{Bad, Opening, Take}
 use Rattle.script.specs.declared.Desk.{Desk}
@@ -29,14 +29,21 @@ use Rattle.script.specs.Program.{noDesk, openedBy, steppedBy, takeLine, 
 use Rattle.script.specs.Running.{Ran, from, atFront, behind, tableBehind, runEnd, runLines, runOf}
 use Rattle.script.proofs.Turns.{when-true, when-false}
 
+-- a text behind what was put before, from a place within the buffer
+abbrev onward : Ran → List ℕ → Ran
+onward r text = from (r .next + length text) (sets (r .buffer) (r .next) text)
+
+behind-within : (r : Ran) (text : List ℕ) → r .next ≤ length (r .buffer) → behind r text ≡ onward r text
+behind-within r text h = ap (λ (n : ℕ). from n (sets (r .buffer) (r .next) text)) (place-within text (r .buffer) (r .next) h)
+
 -- one text and then another is the two together
-behind-then : (r : Ran) (x y : List ℕ) → behind (behind r x) y ≡ behind r (x ++ y)
-behind-then r x y =
+onward-then : (r : Ran) (x y : List ℕ) → onward (onward r x) y ≡ onward r (x ++ y)
+onward-then r x y =
     ap₂ from (add-assoc (r .next) (length x) (length y) ∙ sym (ap (λ (n : ℕ). r .next + n) (length-append x y))) (sets-then x y (r .buffer) (r .next))
 
 -- at the front
-behind-front : (text b : List ℕ) → length text ≤ length b → behind (atFront b) text ≡ from (length text) (text ++ drop (length text) b)
-behind-front text b h = ap₂ from (zero-add (length text)) (sets-eq text b 0 (rw zero-add h) ∙ rw zero-add)
+onward-front : (text b : List ℕ) → length text ≤ length b → onward (atFront b) text ≡ from (length text) (text ++ drop (length text) b)
+onward-front text b h = ap₂ from (zero-add (length text)) (sets-eq text b 0 (rw zero-add h) ∙ rw zero-add)
 
 -- the written table of a sound table, where it fits
 write-is : (t : Table) (room : List ℕ) → soundTest t ≡ true → length (written t) ≤ length room → writeOf t room ≡ wroteText (written t) room
@@ -47,7 +54,7 @@ module _ (r : Ran) (t : Table) (s : soundTest t ≡ true) (h : r .next + length 
   wrote : writeOf t (drop (r .next) (r .buffer)) ≡ wroteText (written t) (drop (r .next) (r .buffer))
   wrote = write-is t (drop (r .next) (r .buffer)) s (simp length-drop (omega arith))
 
-  table-fits : tableBehind r t ≡ behind r (written t)
+  table-fits : tableBehind r t ≡ onward r (written t)
   unfolding tableBehind
   table-fits =
       sym (when-true (leb (r .next) (length (r .buffer))) _ r (le-leb (r .next) (length (r .buffer)) (omega arith)))
@@ -82,44 +89,47 @@ module _ (Fine : Table → Type 0)
   line-fine d (Take s) f = step-fine d s (d .opened) refl f
 
   -- the end of a run
-  ends : (r : Ran) (d : Desk) (b : Bool) → d .opened ≡ b → FineDesk d → r .next + length (closing d) ≤ length (r .buffer) → runEnd r d ≡ behind r (closing d)
+  ends : (r : Ran) (d : Desk) (b : Bool) → d .opened ≡ b → FineDesk d → r .next + length (closing d) ≤ length (r .buffer) → runEnd r d ≡ onward r (closing d)
   unfolding runEnd closing
   ends r d true e f h =
       let text : written (d .table) ≡ closing d = when-true (d .opened) (written (d .table)) (bytes "state=none\n") e in
       sym (when-true (d .opened) (tableBehind r (d .table)) (behind r (bytes "state=none\n")) e)
       ∙ table-fits r (d .table) (sound (d .table) (f e)) (subst (λ (l : List ℕ). r .next + length l ≤ length (r .buffer)) (sym text) h)
-      ∙ ap (behind r) text
+      ∙ ap (onward r) text
   ends r d false e f h =
       sym (when-false (d .opened) (tableBehind r (d .table)) (behind r (bytes "state=none\n")) e)
-      ∙ ap (behind r) (when-false (d .opened) (written (d .table)) (bytes "state=none\n") e)
+      ∙ behind-within r (bytes "state=none\n") (omega arith)
+      ∙ ap (onward r) (when-false (d .opened) (written (d .table)) (bytes "state=none\n") e)
 
   -- the lines
-  room-left : (r : Ran) (x y : List ℕ) → r .next + length (x ++ y) ≤ length (r .buffer) → behind r x .next + length y ≤ length (behind r x .buffer)
+  room-left : (r : Ran) (x y : List ℕ) → r .next + length (x ++ y) ≤ length (r .buffer) → onward r x .next + length y ≤ length (onward r x .buffer)
   room-left r x y h = simp length-sets (omega (arith, simp length-append at h))
 
-  lines-behind : (ls : List (List ℕ)) (r : Ran) (d : Desk) (k : ℕ) → FineDesk d → r .next + length (outputFrom d k ls) ≤ length (r .buffer) → runLines r d k ls ≡ behind r (outputFrom d k ls)
+  lines-onward : (ls : List (List ℕ)) (r : Ran) (d : Desk) (k : ℕ) → FineDesk d → r .next + length (outputFrom d k ls) ≤ length (r .buffer) → runLines r d k ls ≡ onward r (outputFrom d k ls)
   unfolding runLines outputFrom
-  lines-behind [] r d k f h = ends r d (d .opened) refl f h
-  lines-behind (l ∷ ls) r d k f h =
+  lines-onward [] r d k f h = ends r d (d .opened) refl f h
+  lines-onward (l ∷ ls) r d k f h =
       let turn : Turn = takeLine d (lineOf l) in
       let answer : List ℕ = answerLine k turn in
       let more : List ℕ = outputFrom (turn .desk) (suc k) ls in
-      lines-behind ls (behind r answer) (turn .desk) (suc k) (line-fine d (lineOf l) f) (room-left r answer more h)
-      ∙ behind-then r answer more
+      ap (λ (s : Ran). runLines s (turn .desk) (suc k) ls) (behind-within r answer (omega arith))
+      ∙ lines-onward ls (onward r answer) (turn .desk) (suc k) (line-fine d (lineOf l) f) (room-left r answer more h)
+      ∙ onward-then r answer more
 
   never-opened : FineDesk noDesk
   never-opened e = absurd (false≢true e)
 
-  run-by : (input b : List ℕ) (t : Bool) → leb (length input) mostInput ≡ t → length (outputOf input) ≤ length b → runOf input b ≡ behind (atFront b) (outputOf input)
+  run-by : (input b : List ℕ) (t : Bool) → leb (length input) mostInput ≡ t → length (outputOf input) ≤ length b → runOf input b ≡ onward (atFront b) (outputOf input)
   unfolding runOf outputOf
   run-by input b true e h =
       let text : outputFrom noDesk 1 (linesOf input) ≡ outputOf input = when-true (leb (length input) mostInput) _ (bytes "state=toolong\n") e in
       sym (when-true (leb (length input) mostInput) _ (behind (atFront b) (bytes "state=toolong\n")) e)
-      ∙ lines-behind (linesOf input) (atFront b) noDesk 1 never-opened (rw (zero-add, text) h)
-      ∙ ap (behind (atFront b)) text
+      ∙ lines-onward (linesOf input) (atFront b) noDesk 1 never-opened (rw (zero-add, text) h)
+      ∙ ap (onward (atFront b)) text
   run-by input b false e h =
       sym (when-false (leb (length input) mostInput) (runLines (atFront b) noDesk 1 (linesOf input)) _ e)
-      ∙ ap (behind (atFront b)) (when-false (leb (length input) mostInput) (outputFrom noDesk 1 (linesOf input)) _ e)
+      ∙ behind-within (atFront b) (bytes "state=toolong\n") zero-le
+      ∙ ap (onward (atFront b)) (when-false (leb (length input) mostInput) (outputFrom noDesk 1 (linesOf input)) _ e)
 
   pub run-output : (input b : List ℕ) → length (outputOf input) ≤ length b → runOf input b ≡ from (length (outputOf input)) (outputOf input ++ drop (length (outputOf input)) b)
-  run-output input b h = run-by input b (leb (length input) mostInput) refl h ∙ behind-front (outputOf input) b h
+  run-output input b h = run-by input b (leb (length input) mostInput) refl h ∙ onward-front (outputOf input) b h

@@ -13,7 +13,7 @@ use Rattle.records.specs.declared.Code.the-variants.{NoRoom, BadState}
 use Rattle.table.specs.declared.Table.{Table}
 use Rattle.table.specs.Testing.{soundTest}
 use Rattle.written.specs.declared.Written.{Written}
-use Rattle.written.specs.Placing.{Put}
+use Rattle.written.specs.Placing.{PutWithin}
 use Rattle.written.specs.Text.{written}
 use Rattle.written.specs.Writing.{unlessWriting, wroteText, writeOf}
 use Rattle.script.specs.declared.Line.{Line}
@@ -31,7 +31,7 @@ use Rattle.script.proofs.Turns.{when-true, when-false}
 pub came-same : {x y : Ran} {n : ℕ} {b : List ℕ} → x ≡ y → Came x n b → Came y n b
 came-same e c = record { place = c .place ∙ ap (λ (r : Ran). r .next) e; held = c .held ∙ ap (λ (r : Ran). r .buffer) e }
 
-pub came-put : {text b after : List ℕ} {at next : ℕ} → Put text b after at next → Came (behind (from at b) text) next after
+pub came-put : {text b after : List ℕ} {at next : ℕ} → PutWithin text b after at next → Came (behind (from at b) text) next after
 came-put p = record { place = p .place; held = p .held }
 
 -- the part of a list from a place on, as it is lent
@@ -84,13 +84,13 @@ run-on : (r : Ran) (d : Desk) (k : ℕ) (rest : List ℕ) → 0 < length rest
 unfolding runLines
 run-on r d k rest h = rw (lines-of-some rest h)
 
-answered : (k at next : ℕ) (b after : List ℕ) (x : Turn) → Put (answerText (k + 1) (x .code) (x .number)) b after at next → from next after ≡ behind (from at b) (answerLine (suc k) x)
+answered : (k at next : ℕ) (b after : List ℕ) (x : Turn) → PutWithin (answerText (k + 1) (x .code) (x .number)) b after at next → from next after ≡ behind (from at b) (answerLine (suc k) x)
 unfolding answerLine answerText
 answered k at next b after x p = ap₂ from (p .place) (p .held) ∙ rw add-one
 
 module _ (k : ℕ) (rest : List ℕ) (d : Desk) {at next taken : ℕ} {b after line : List ℕ} {x : Line} {r : Turn} where
   pub turn-on : 0 < length rest → line ≡ firstLine rest → x ≡ lineOf line → r ≡ takeLine d x
-      → Put (answerText (k + 1) (r .code) (r .number)) b after at next → taken ≡ lineTaken rest
+      → PutWithin (answerText (k + 1) (r .code) (r .number)) b after at next → taken ≡ lineTaken rest
       → runLines (from at b) d (suc k) (linesOf rest) ≡ runLines (from next after) (r .desk) (suc (k + 1)) (linesOf (take (length rest - taken) (drop taken rest)))
   turn-on h e f g p q =
       let left : take (length rest - taken) (drop taken rest) ≡ afterLine rest = part-from taken rest ∙ ap (λ (n : ℕ). drop n rest) q in

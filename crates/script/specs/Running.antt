@@ -10,6 +10,7 @@ use Rattle.records.specs.declared.Code.{Code}
 use Rattle.records.specs.Codes.{codeNumber}
 use Rattle.table.specs.declared.Table.{Table}
 use Rattle.written.specs.Decimal.{decimal, bytes}
+use Rattle.written.specs.Placing.{placeAfter}
 use Rattle.written.specs.Text.{fields, row}
 use Rattle.written.specs.Writing.{writeOf}
 use Rattle.script.specs.declared.Desk.{Desk}
@@ -38,9 +39,9 @@ from next buffer = record { next = next; buffer = buffer }
 abbrev pub atFront : List ℕ → Ran
 atFront buffer = from 0 buffer
 
--- a text behind what was put before, as far as the buffer has room
+-- a text behind what was put before, as far as the buffer has room; once the place is past its end nothing more is put
 abbrev pub behind : Ran → List ℕ → Ran
-behind r text = record { next = r .next + length text; buffer = sets (r .buffer) (r .next) text }
+behind r text = record { next = placeAfter (r .buffer) (r .next) text; buffer = sets (r .buffer) (r .next) text }
 
 -- the written table behind what was put before, where there is room for the whole of it
 unfoldable pub tableBehind : Ran → Table → Ran

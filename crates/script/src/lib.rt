@@ -1,5 +1,4 @@
 // The script: what a line says, and what a script has come to.
-pub mod answers;
 pub mod finding;
 pub mod numerals;
 pub mod reading;

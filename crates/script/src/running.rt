@@ -1,19 +1,22 @@
 // The whole script: from the input's bytes to the output's, in lent buffers.
-ghost use Prim.Native.Nat.{_<_, _≤_};
+ghost use Prim.Native.Nat.{_≤_};
 ghost use mathlib.Core.Path.{_≡_};
 ghost use lib.ListN.{length};
 ghost use Rattle.table.specs.Holding.{noTable};
+ghost use Rattle.written.specs.Placing.{PutWithin};
 ghost use Rattle.script.specs.Program.{noDesk};
 ghost use Rattle.script.specs.Lines.{linesOf};
-ghost use Rattle.script.specs.Running.{Came, from, atFront, tableBehind, runEnd, runLines, runOf};
+ghost use Rattle.script.specs.Running.{Came, answerText, from, atFront, tableBehind, runEnd, runLines, runOf};
 use crate::Desk;
-use crate::answers::put_answer;
 use crate::finding::first_line;
 use crate::finding::line_taken;
 use crate::reading::read_line;
 use crate::taking::take;
+use records::Code;
+use records::codes::code_number;
 use table::Table;
-use written::place::put_word;
+use written::answers::answer_line;
+use written::place::put_text;
 use written::write;
 
 const MOST_INPUT: usize = 65536;
@@ -29,6 +32,16 @@ fn no_desk() -> Desk
     }
 }
 
+// The line that answers a code and a number, from a place on.
+fn put_answer(output: &mut [u8], at: usize, k: u32, code: Code, number: u32) -> usize
+    ensures { λ r. ⌜ PutWithin (answerText k code number) (now (output .entry)) (now (output .exit)) at r ⌝ }
+{
+    let shown = code_number(code);
+    let mut room = [0u8; 43];
+    let count = answer_line(&mut room, k, shown, number);
+    put_text(output, at, &room[..count])
+}
+
 // The written table from a place on.
 fn put_table(output: &mut [u8], at: usize, table: Table) -> usize
     ensures { λ r. ⌜ Came (tableBehind (from at (now (output .entry))) table) r (now (output .exit)) ⌝ }
@@ -42,14 +55,13 @@ fn put_table(output: &mut [u8], at: usize, table: Table) -> usize
 
 // The end of a run.
 fn put_end(output: &mut [u8], at: usize, desk: Desk) -> usize
-    requires { ⌜ at < 4000000000 ⌝ }
     ensures { λ r. ⌜ Came (runEnd (from at (now (output .entry))) desk) r (now (output .exit)) ⌝ }
 {
     if desk.opened {
         let table = desk.table;
         return put_table(output, at, table);
     }
-    put_word(output, at, b"state=none\n")
+    put_text(output, at, b"state=none\n")
 }
 
 // An answer for each line, and then the end.
@@ -78,7 +90,7 @@ pub fn run(input: &[u8], output: &mut [u8]) -> usize
     ensures { λ r. ⌜ Came (runOf (now (input .entry)) (now (output .entry))) r (now (output .exit)) ⌝ }
 {
     if MOST_INPUT < input.len() {
-        return put_word(output, 0, b"state=toolong\n");
+        return put_text(output, 0, b"state=toolong\n");
     }
     run_lines(input, output)
 }

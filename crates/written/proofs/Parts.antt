@@ -1,7 +1,7 @@
--- Each row is the parts that its writer puts, one after another.
+-- Each row is the parts that its writer puts, one after another, and so is the line of an answer.
 use Prim.Native.Nat.{ℕ, _+_, _≤_}
 use mathlib.Core.Path.{_≡_}
-use mathlib.Core.List.{List, _++_, append-assoc}
+use mathlib.Core.List.{List, [], _∷_, _++_, append-assoc}
 use native.Mathlib.Nat.{le-antisymm}
 use native.Mathlib.Numerals.{add-one}
 use Rattle.records.specs.declared.Agent.{Agent}
@@ -34,6 +34,11 @@ message-parts i x = simp append-assoc
 
 pub entry-parts : (i m : ℕ) → keyed (bytes "log.") i ++ ended m 10 ≡ row (bytes "log") i (decimal m)
 entry-parts i m = simp append-assoc
+
+pub answer-parts : (k code number : ℕ)
+    → keyed (bytes "line.") k ++ (ended code 44 ++ ended number 10) ≡ row (bytes "line") k (fields (decimal code ∷ decimal number ∷ []))
+unfolding fields
+answer-parts k code number = simp append-assoc
 
 -- the rows below a number, put one after another
 pub rows-none : (f : ℕ → List ℕ) (b : List ℕ) (p : ℕ) → Put (rowsBelow 0 f) b b p p

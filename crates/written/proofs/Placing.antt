@@ -1,12 +1,13 @@
 -- Laws of texts put one after another.
-use Prim.Native.Nat.{ℕ, suc, _+_, _≤_}
+use Prim.Native.Nat.{ℕ, suc, _+_, _<_, _≤_}
 use mathlib.Core.Path.{_≡_, refl, sym, ap, _∙_}
 use mathlib.Core.List.{List, [], _∷_, _++_}
 use native.Mathlib.Nat.{add-zero, zero-add, add-suc, suc-add}
 use native.Mathlib.Omega.{arith}
 use lib.ListN.{length, length-append, set, take, drop}
 use lib.Seq.{sets, set-out, length-sets, sets-eq, take-append-seam}
-use Rattle.written.specs.Placing.{Put}
+use borrow.Author.Tests.{le-leb, lt-leb}
+use Rattle.written.specs.Placing.{Put, placeAfter}
 
 pub sets-then : (x y l : List ℕ) (i : ℕ) → sets (sets l i x) (i + length x) y ≡ sets l i (x ++ y)
 sets-then [] y l i = rw add-zero
@@ -38,9 +39,17 @@ put-same {b₀ = b₀} {p₀ = p₀} e p =
       held = p .held ∙ ap (sets b₀ p₀) e;
     }
 
--- a byte past the end
-pub put-past : (a : ℕ) (b : List ℕ) (p : ℕ) → length b ≤ p → b ≡ sets b p (a ∷ [])
-put-past a b p h = sym (set-out b p a h)
+-- a text past the end
+pub put-past : (x b : List ℕ) (p : ℕ) → length b ≤ p → b ≡ sets b p x
+put-past [] b p h = refl
+put-past (a ∷ x) b p h = put-past x b (suc p) (omega arith) ∙ ap (λ (l : List ℕ). sets l (suc p) x) (sym (set-out b p a h))
+
+-- the place after a text, from a place within the buffer and from one past its end
+pub place-within : (x b : List ℕ) (p : ℕ) → p ≤ length b → placeAfter b p x ≡ p + length x
+place-within x b p h = rw (le-leb p (length b) h)
+
+pub place-past : (x b : List ℕ) (p : ℕ) → length b < p → placeAfter b p x ≡ p
+place-past x b p h = rw (lt-leb p (length b) h)
 
 -- a buffer keeps its length
 pub put-length : {x b₀ b₁ : List ℕ} {p₀ p₁ : ℕ} → Put x b₀ b₁ p₀ p₁ → length b₁ ≡ length b₀

@@ -10,7 +10,7 @@ use crate::place::put_byte;
 use crate::place::put_word;
 
 // A number's digits.
-pub fn put_number(buf: &mut [u8], at: usize, n: u32) -> usize
+pub(crate) fn put_number(buf: &mut [u8], at: usize, n: u32) -> usize
     requires { ⌜ at < 1000000 ⌝ }
     ensures { λ r. ⌜ Put (decimal n) (now (buf .entry)) (now (buf .exit)) at r × (r ≤ at + 10) ⌝ }
 {
@@ -20,7 +20,7 @@ pub fn put_number(buf: &mut [u8], at: usize, n: u32) -> usize
 }
 
 // A number and the byte after it.
-pub fn put_ended(buf: &mut [u8], at: usize, n: u32, after: u8) -> usize
+pub(crate) fn put_ended(buf: &mut [u8], at: usize, n: u32, after: u8) -> usize
     requires { ⌜ at < 1000000 ⌝ }
     ensures { λ r. ⌜ Put (ended n after) (now (buf .entry)) (now (buf .exit)) at r × (r ≤ at + 11) ⌝ }
 {
@@ -29,7 +29,7 @@ pub fn put_ended(buf: &mut [u8], at: usize, n: u32, after: u8) -> usize
 }
 
 // A word, a number and the byte after it.
-pub fn put_numbered(buf: &mut [u8], at: usize, word: &[u8], n: u32, after: u8) -> usize
+pub(crate) fn put_numbered(buf: &mut [u8], at: usize, word: &[u8], n: u32, after: u8) -> usize
     requires { ⌜ at < 900000 ⌝ }
     requires { ⌜ length (now word) ≤ 10 ⌝ }
     ensures { λ r. ⌜ Put (now (word .entry) ++ ended n after) (now (buf .entry)) (now (buf .exit)) at r × (r ≤ at + 21) ⌝ }

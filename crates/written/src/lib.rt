@@ -6,8 +6,9 @@ use soundness::sound_parts;
 use table::Table;
 use whole::write_sound;
 
+pub mod answers;
 pub mod digits;
-pub mod fields;
+mod fields;
 mod lines;
 pub mod place;
 mod rows;

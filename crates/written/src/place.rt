@@ -1,13 +1,12 @@
-// Bytes put into a buffer from a place on. Each writer answers the place after its text. A byte past the buffer's end is left out, so
-// that a writer that is given no room measures its text.
-ghost use mathlib.Core.Path.{_≡_};
+// Bytes put into a buffer from a place on. Each writer answers the place after its text; the crate's own ask that it does not wrap. A
+// byte past the buffer's end is left out, so that a writer that is given no room measures its text.
 ghost use mathlib.Core.List.{[], _∷_};
-ghost use Prim.Native.Nat.{_<_};
+ghost use Prim.Native.Nat.{_+_, _<_};
 ghost use lib.ListN.{length};
-ghost use Rattle.written.specs.Placing.{Put};
+ghost use Rattle.written.specs.Placing.{Put, PutWithin};
 
-pub fn put_byte(buf: &mut [u8], at: usize, byte: u8) -> usize
-    requires { ⌜ at < 4294967296 ⌝ }
+pub(crate) fn put_byte(buf: &mut [u8], at: usize, byte: u8) -> usize
+    requires { ⌜ at < 18446744073709551615 ⌝ }
     ensures { λ r. ⌜ Put (byte ∷ []) (now (buf .entry)) (now (buf .exit)) at r ⌝ }
 {
     if at < buf.len() {
@@ -16,9 +15,8 @@ pub fn put_byte(buf: &mut [u8], at: usize, byte: u8) -> usize
     at + 1
 }
 
-pub fn put_word(buf: &mut [u8], at: usize, word: &[u8]) -> usize
-    requires { ⌜ at < 4000000000 ⌝ }
-    requires { ⌜ length (now word) < 1000000 ⌝ }
+pub(crate) fn put_word(buf: &mut [u8], at: usize, word: &[u8]) -> usize
+    requires { ⌜ at + length (now word) < 18446744073709551616 ⌝ }
     ensures { λ r. ⌜ Put (now (word .entry)) (now (buf .entry)) (now (buf .exit)) at r ⌝ }
 {
     let mut next = at;
@@ -29,4 +27,15 @@ pub fn put_word(buf: &mut [u8], at: usize, word: &[u8]) -> usize
         i += 1;
     }
     next
+}
+
+// A text from any place at all, for callers that know no bound of theirs. One past the buffer's end is answered as it is; from one
+// within it the place after the text cannot wrap, since a buffer and a text have fewer than 2 ^ 63 bytes each.
+pub fn put_text(buf: &mut [u8], at: usize, text: &[u8]) -> usize
+    ensures { λ r. ⌜ PutWithin (now (text .entry)) (now (buf .entry)) (now (buf .exit)) at r ⌝ }
+{
+    if buf.len() < at {
+        return at;
+    }
+    put_word(buf, at, text)
 }

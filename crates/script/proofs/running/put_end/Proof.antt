@@ -16,18 +16,18 @@ returns : tie.Need-returns
 unfolding runEnd
 returns c = came-same (when-true (c .before .before .before .before .before .before .before .args .desk .opened) _ _ (c .before .before .before .before .before .if1 .taken)) (c .before .before .put-table .ensures)
 
-slice-aggregate-put-word : tie.Need-slice-aggregate-put-word
-slice-aggregate-put-word c = search needs
+slice-aggregate-put-text : tie.Need-slice-aggregate-put-text
+slice-aggregate-put-text c = search needs
 
-put-word-requires : tie.Need-put-word-requires
-put-word-requires c κs = search needs
+put-text-requires : tie.Need-put-text-requires
+put-text-requires c κs = search needs
 
 same-length-2 : tie.Need-same-length-2
 same-length-2 c = search needs
 
 returns-2 : tie.Need-returns-2
 unfolding runEnd
-returns-2 c = came-same (when-false (c .before .before .before .before .before .before .before .args .desk .opened) _ _ (c .before .before .before .before .before .if1 .left)) (came-put (c .before .before .put-word .ensures))
+returns-2 c = came-same (when-false (c .before .before .before .before .before .before .before .args .desk .opened) _ _ (c .before .before .before .before .before .if1 .left)) (came-put (c .before .before .put-text .ensures))
 
 pub put-end-spec : {M : Type 1} → statement M
 put-end-spec =
@@ -36,7 +36,7 @@ put-end-spec =
     put-table-requires
     same-length
     returns
-    slice-aggregate-put-word
-    put-word-requires
+    slice-aggregate-put-text
+    put-text-requires
     same-length-2
     returns-2)

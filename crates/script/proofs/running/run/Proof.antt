@@ -7,18 +7,18 @@ use Rattle.script.proofs.Turns.{when-true, when-false}
 use Rattle.script.proofs.running.run.Statement.{statement}
 use Rattle.script.proofs.running.run.Tie as tie
 
-slice-aggregate-put-word : tie.Need-slice-aggregate-put-word
-slice-aggregate-put-word c = search needs
+slice-aggregate-put-text : tie.Need-slice-aggregate-put-text
+slice-aggregate-put-text c = search needs
 
-put-word-requires : tie.Need-put-word-requires
-put-word-requires c κs = search needs
+put-text-requires : tie.Need-put-text-requires
+put-text-requires c κs = search needs
 
 same-length : tie.Need-same-length
 same-length c = search needs
 
 returns : tie.Need-returns
 unfolding runOf
-returns c = came-same (when-false _ _ _ (lt-leb _ _ (c .before .before .before .before .before .if1 .taken))) (came-put (c .before .before .put-word .ensures))
+returns c = came-same (when-false _ _ _ (lt-leb _ _ (c .before .before .before .before .before .if1 .taken))) (came-put (c .before .before .put-text .ensures))
 
 run-lines-requires : tie.Need-run-lines-requires
 run-lines-requires c κs = search needs
@@ -34,8 +34,8 @@ pub run-spec : {M : Type 1} → statement M
 run-spec =
     tie.close
     (tie.spec
-    slice-aggregate-put-word
-    put-word-requires
+    slice-aggregate-put-text
+    put-text-requires
     same-length
     returns
     run-lines-requires

@@ -1,5 +1,5 @@
 -- `script::running::run_lines` meets its contract.
-use Prim.Native.Nat.{suc, _+_, _*_, _≤_}
+use Prim.Native.Nat.{suc, _+_, _≤_}
 use mathlib.Core.Path.{_≡_, refl, sym, _∙_}
 use native.Mathlib.Omega.{arith}
 use lib.ListN.{length}
@@ -8,7 +8,6 @@ use Rattle.script.specs.Program.{noDesk}
 use Rattle.script.specs.Running.{from, atFront, runLines}
 use Rattle.script.proofs.LineEnds.{taken-within, taken-some}
 use Rattle.script.proofs.Runs.{came-same, part-length, turn-on, run-ends}
-use Rattle.written.proofs.Placing.{put-length}
 use borrow.Author.Needs.{needs}
 use Rattle.script.proofs.running.run_lines.Statement.{statement}
 use Rattle.script.proofs.running.run_lines.Tie as tie
@@ -16,9 +15,8 @@ use Rattle.script.proofs.running.run_lines.Tie as tie
 abbrev Inv-loop : tie.InvT-loop
 Inv-loop input output₀ rest₀ desk₀ k₀ at₀ output rest desk k at =
     (k + length rest ≤ 65536)
-    × ((at ≤ 43 * k)
     × ((length output ≡ length output₀)
-    × (runLines (atFront output₀) noDesk 1 (linesOf input) ≡ runLines (from at output) desk (suc k) (linesOf rest))))
+    × (runLines (atFront output₀) noDesk 1 (linesOf input) ≡ runLines (from at output) desk (suc k) (linesOf rest)))
 
 abbrev μ-loop : tie.MeasureT-loop
 μ-loop input output₀ rest₀ desk₀ k₀ at₀ output rest desk k at = length rest
@@ -27,7 +25,7 @@ no-desk-requires : tie.Need-no-desk-requires Inv-loop μ-loop
 no-desk-requires c κs = tt
 
 loop-holds : tie.Need-loop-holds Inv-loop μ-loop
-loop-holds c = (omega arith, (omega arith, (refl, rw (c .no-desk .ensures))))
+loop-holds c = (omega arith, (refl, rw (c .no-desk .ensures)))
 
 add-k : tie.Need-add-k Inv-loop μ-loop
 add-k c = omega arith
@@ -42,7 +40,7 @@ take-requires : tie.Need-take-requires Inv-loop μ-loop
 take-requires c κs = tt
 
 put-answer-requires : tie.Need-put-answer-requires Inv-loop μ-loop
-put-answer-requires c κs = omega arith
+put-answer-requires c κs = tt
 
 line-taken-requires : tie.Need-line-taken-requires Inv-loop μ-loop
 line-taken-requires c κs = tt
@@ -64,25 +62,22 @@ loop-again c =
     let loop = c .before .before .before .before .before .before .before .before .before .before .before .loop in (
       omega (arith, part-length (c .before .line-taken .result) (c .before .before .before .before .before .before .before .before .before .before .before .loop .rest .now), taken-some (c .before .before .before .before .before .before .before .before .before .before .before .loop .rest .now) (c .before .before .before .before .before .before .before .before .before .before .loop-test .taken), c .before .line-taken .ensures, taken-within (c .before .before .before .before .before .before .before .before .before .before .before .loop .rest .now)),
       (
-        omega (arith, c .before .before .before .before .before .put-answer .ensures .1),
-        (
-          put-length (c .before .before .before .before .before .put-answer .ensures .0) ∙ loop .inv .1 .1 .0,
-          loop .inv .1 .1 .1
-              ∙ turn-on (loop .k) (loop .rest .now) (loop .desk) (c .before .before .before .before .before .before .before .before .before .before .loop-test .taken) (c .before .before .before .before .before .before .before .before .before .first-line .ensures) (c .before .before .before .before .before .before .before .before .read-line .ensures) (c .before .before .before .before .before .before .before .take .ensures) (c .before .before .before .before .before .put-answer .ensures .0) (c .before .line-taken .ensures),
-        ),
+        c .before .before .before .before .before .put-answer .kept .0 ∙ loop .inv .1 .0,
+        loop .inv .1 .1
+            ∙ turn-on (loop .k) (loop .rest .now) (loop .desk) (c .before .before .before .before .before .before .before .before .before .before .loop-test .taken) (c .before .before .before .before .before .before .before .before .before .first-line .ensures) (c .before .before .before .before .before .before .before .before .read-line .ensures) (c .before .before .before .before .before .before .before .take .ensures) (c .before .before .before .before .before .put-answer .ensures) (c .before .line-taken .ensures),
       ),
     )
 
 put-end-requires : tie.Need-put-end-requires Inv-loop μ-loop
-put-end-requires c κs = omega arith
+put-end-requires c κs = tt
 
 same-length : tie.Need-same-length Inv-loop μ-loop
-same-length c = c .before .before .put-end .kept .0 ∙ c .before .before .before .before .before .loop .inv .1 .1 .0
+same-length c = c .before .before .put-end .kept .0 ∙ c .before .before .before .before .before .loop .inv .1 .0
 
 returns : tie.Need-returns Inv-loop μ-loop
 returns c =
     let loop = c .before .before .before .before .before .loop in
-    came-same (run-ends (from (loop .at) (loop .output)) (loop .desk) (suc (loop .k)) (loop .rest .now) (c .before .before .before .before .loop-test .left) ∙ sym (loop .inv .1 .1 .1)) (c .before .before .put-end .ensures)
+    came-same (run-ends (from (loop .at) (loop .output)) (loop .desk) (suc (loop .k)) (loop .rest .now) (c .before .before .before .before .loop-test .left) ∙ sym (loop .inv .1 .1)) (c .before .before .put-end .ensures)
 
 pub run-lines-spec : {M : Type 1} → statement M
 run-lines-spec =

@@ -28,7 +28,7 @@ slice-aggregate-put-word : tie.Need-slice-aggregate-put-word
 slice-aggregate-put-word c = rw (front (c .before .before)) (c .before .before .digits .ensures .place ∙ zero-add _)
 
 put-word-requires : tie.Need-put-word-requires
-put-word-requires c κs = (omega (arith, c .before .before .before .before .before .pre), rw (front (c .before .before)) (omega (arith, short (c .before .before))))
+put-word-requires c κs = rw (front (c .before .before)) (omega (arith, c .before .before .before .before .before .pre, short (c .before .before)))
 
 same-length : tie.Need-same-length
 same-length c = search needs

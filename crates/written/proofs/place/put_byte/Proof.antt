@@ -20,7 +20,7 @@ stored : (c : tie.Joined1) → c .if1 .buf ≡ sets (now (c .before .args .buf))
 stored c =
     ⊎-elim
     (λ w. w .1)
-    (λ w. w .1 ∙ put-past (c .before .args .byte) (now (c .before .args .buf)) (c .before .args .at) (w .0 .left))
+    (λ w. w .1 ∙ put-past (c .before .args .byte ∷ []) (now (c .before .args .buf)) (c .before .args .at) (w .0 .left))
     (c .if1 .came)
 
 returns : tie.Need-returns
