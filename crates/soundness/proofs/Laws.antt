@@ -1,6 +1,6 @@
 -- How the test of a list, or of the places below a number, goes on by one place: what the loops' invariants rest on.
 use Prim.Native.Nat.{ℕ, suc, _+_, _≤_, _<_}
-use mathlib.Core.Bool.{Bool, _&&_, and-assoc, and-true}
+use mathlib.Core.Bool.{Bool, false, _&&_, and-assoc, and-true}
 use mathlib.Core.List.{List}
 use mathlib.Core.Path.{_≡_, sym, _∙_}
 use native.Mathlib.Numerals.{add-one}
@@ -8,6 +8,8 @@ use native.Mathlib.Omega.{arith}
 use lib.ListN.{length, getD, drop, drop-of-length-le}
 use lib.Seq.{drop-cons}
 use Rattle.records.specs.Places.{allOf, allBelow}
+use Rattle.records.proofs.FlagLaws.{by-test}
+use Rattle.records.proofs.PlaceLaws.{below-each}
 
 -- the flag of a loop over a list's room takes in one more element
 pub room-on {ℓ} : {A : Type ℓ} (f : A → Bool) (l : List A) (d : A) (n i : ℕ) (fine next : Bool) → i < length l → allOf f (drop n l) ≡ (fine && allOf f (drop i l)) → next ≡ (fine && f (getD l i d)) → allOf f (drop n l) ≡ (next && allOf f (drop (i + 1) l))
@@ -28,3 +30,11 @@ below-on f i fine found next so this step = rw (step, this, so, add-one)
 -- where the places are used up the flag is the whole answer
 pub below-end : (f : ℕ → Bool) (n i : ℕ) (fine : Bool) → i ≤ n → n ≤ i → fine ≡ allBelow i f → fine ≡ allBelow n f
 below-end f n i fine low high so = let same : i ≡ n = omega arith in rw same at so
+
+-- one place that fails is enough
+pub below-off : (f : ℕ → Bool) (n i : ℕ) → i < n → f i ≡ false → false ≡ allBelow n f
+below-off f n i h off = by-test (allBelow n f) (λ all. sym off ∙ (below-each n f all i h ∙ sym all)) (λ none. sym none)
+
+-- a first part that fails is enough
+pub fails-first : {a : Bool} (b : Bool) → false ≡ a → false ≡ (a && b)
+fails-first {a} b e = rw (sym e)

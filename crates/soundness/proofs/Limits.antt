@@ -1,8 +1,8 @@
 -- What the first parts of the test, once passed, say of the numbers that the later parts index by.
 use Prim.Native.Nat.{ℕ, _≤_, _<_}
-use mathlib.Core.Bool.{Bool, true, false, _&&_}
+use mathlib.Core.Bool.{Bool, true, false, _&&_, and-false}
 use mathlib.Core.List.{List}
-use mathlib.Core.Path.{_≡_, refl}
+use mathlib.Core.Path.{_≡_, sym}
 use native.Mathlib.Omega.{arith}
 use lib.ListN.{getD}
 use borrow.Author.Tests.{leb-true, ltb-true}
@@ -13,7 +13,7 @@ use Rattle.records.specs.declared.Stand.{Stand}
 use Rattle.records.specs.declared.Lock.{Lock}
 use Rattle.records.specs.Numbers.{agentNo, mailNo}
 use Rattle.records.specs.Places.{allBelow}
-use Rattle.soundness.specs.Tests.{countsFine, roomFine, eachFine, bookFine, partsSound, messageFine, partyIn}
+use Rattle.soundness.specs.Tests.{countsFine, numberRoom, messageFine, partyIn, eachFine, bookFine, partsSound}
 use Rattle.records.proofs.FlagLaws.{and-left, and-right}
 use Rattle.records.proofs.PlaceLaws.{below-each}
 
@@ -41,16 +41,20 @@ senders-below sites agents messages lock agent sender addressee status few each 
     let there : partyIn sender (mailNo i) .0 < agents = ltb-true (partyIn sender (mailNo i) .0) agents (search (and-left, and-right)) in
     omega arith
 
-third-fails : (a b c d : Bool) → c ≡ false → false ≡ (a && (b && (c && d)))
-third-fails true true c d e = rw e
-third-fails true false c d e = refl
-third-fails false b c d e = refl
+refused-by : (c e b : Bool) → e ≡ false → false ≡ (c && (e && b))
+refused-by c e b f = sym (rw f (and-false c))
 
--- a table with an agent, a lock or a message that is not right is not sound, whatever its room and its book hold
+passed-by : (c e b : Bool) → c ≡ true → e ≡ true → b ≡ (c && (e && b))
+passed-by c e b f g = rw (f, g)
+
+-- a table with an agent, a lock or a message that is not right, or with something in the room past them, is not sound, whatever else it holds
 pub each-refused : (sites agents messages handed : ℕ) (lock : Lock) (agent : List Agent) (sender : List AgentNo) (number : List ℕ) (addressee : List AgentNo) (value : List ℕ) (status : List Stand) (log : List MailNo) → eachFine sites agents messages lock agent sender addressee status ≡ false → false ≡ partsSound sites agents messages handed lock agent sender number addressee value status log
 unfolding partsSound
 each-refused sites agents messages handed lock agent sender number addressee value status log =
-    third-fails (countsFine sites agents messages handed)
-    (roomFine agents messages handed agent sender number addressee value status log)
-    (eachFine sites agents messages lock agent sender addressee status)
-    (bookFine messages handed sender number status log)
+    refused-by (countsFine sites agents messages handed) (eachFine sites agents messages lock agent sender addressee status) (numberRoom messages value && bookFine messages handed sender number status log)
+
+-- behind counts, agents, lock and messages that are right the rest decides
+pub each-passed : (sites agents messages handed : ℕ) (lock : Lock) (agent : List Agent) (sender : List AgentNo) (number : List ℕ) (addressee : List AgentNo) (value : List ℕ) (status : List Stand) (log : List MailNo) → countsFine sites agents messages handed ≡ true → eachFine sites agents messages lock agent sender addressee status ≡ true → (numberRoom messages value && bookFine messages handed sender number status log) ≡ partsSound sites agents messages handed lock agent sender number addressee value status log
+unfolding partsSound
+each-passed sites agents messages handed lock agent sender number addressee value status log =
+    passed-by (countsFine sites agents messages handed) (eachFine sites agents messages lock agent sender addressee status) (numberRoom messages value && bookFine messages handed sender number status log)

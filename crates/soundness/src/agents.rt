@@ -2,10 +2,9 @@
 ghost use mathlib.Core.Path.{_≡_};
 ghost use mathlib.Core.Bool.{_&&_, Bool·beq};
 ghost use Prim.Native.Nat.{_≤_};
-ghost use Rattle.records.specs.Agents.{isMoving};
+ghost use Rattle.records.specs.Agents.{isMoving, isEmptyAgent};
 ghost use Rattle.records.specs.Locks.{heldForMove};
-ghost use Rattle.records.specs.Places.{allBelow};
-ghost use Rattle.soundness.specs.Tests.{agentSites, namesBack, family, mapRight, agentFine};
+ghost use Rattle.soundness.specs.Tests.{agentSites, namesBack, family, mapRight, agentsFine};
 use crate::places::agent_place;
 use records::Agent;
 use records::AgentNo;
@@ -13,6 +12,7 @@ use records::Lock;
 use records::agents::ASKING;
 use records::agents::BORN;
 use records::agents::ENROLLED;
+use records::agents::FREE;
 use records::agents::GRANTED;
 use records::agents::LANDED;
 use records::agents::SPAWNING;
@@ -113,9 +113,21 @@ fn agent_fine(sites: u32, agents: u32, lock: Lock, a: AgentNo, one: Agent, other
     both(there, both(related, both(mapped, locked)))
 }
 
+fn is_empty_agent(one: Agent) -> bool
+    ensures { λ r. ⌜ r ≡ isEmptyAgent one ⌝ }
+{
+    let site = one.site;
+    let phase = one.phase;
+    let map = one.map;
+    let free = phase_kind(phase) == FREE;
+    let unmapped = opposite(is_mapped(map));
+    both(site.0 == 0, both(free, unmapped))
+}
+
+// Each agent, and then the room past them.
 pub(crate) fn agents_fine(sites: u32, agents: u32, lock: Lock, agent: [Agent; 64]) -> bool
     requires { ⌜ agents ≤ 64 ⌝ }
-    ensures { λ r. ⌜ r ≡ allBelow agents (agentFine sites agents lock agent) ⌝ }
+    ensures { λ r. ⌜ r ≡ agentsFine sites agents lock agent ⌝ }
 {
     let mut fine = true;
     let mut i: u32 = 0;
@@ -128,5 +140,12 @@ pub(crate) fn agents_fine(sites: u32, agents: u32, lock: Lock, agent: [Agent; 64
         fine = both(test, fine);
         i += 1;
     }
-    fine
+    let mut empty = true;
+    let mut j = agents as usize;
+    while j < 64 {
+        let past = agent[j];
+        empty = both(empty, is_empty_agent(past));
+        j += 1;
+    }
+    both(fine, empty)
 }

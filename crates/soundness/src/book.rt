@@ -1,9 +1,10 @@
-// The senders' numbers and the log.
+// The senders' numbers and the log, with the room past numbers, statuses and log.
 ghost use Prim.Native.Nat.{ℕ, _≤_, _<_};
 ghost use mathlib.Core.Path.{_≡_};
+ghost use mathlib.Core.Bool.{_&&_};
 ghost use lib.ListN.{getD};
 ghost use Rattle.records.specs.Numbers.{agentNo};
-ghost use Rattle.soundness.specs.Tests.{numbersRun, noCounts, delivered, logRuns, noMarks, bookFine};
+ghost use Rattle.soundness.specs.Tests.{delivered, statusRoom, numbersFine, logFine, bookFine};
 use crate::places::mail_place;
 use records::AgentNo;
 use records::MailNo;
@@ -14,12 +15,13 @@ use records::flags::opposite;
 use records::flags::same_flag;
 use records::messages::CLOSED;
 use records::messages::HANDED;
+use records::messages::QUEUED;
 use records::messages::status_kind;
 
-// Each sender's numbers run 1, 2, 3 .. in the order of taking.
+// Each sender's numbers run 1, 2, 3 .. in the order of taking, and the room past them is empty.
 fn numbers_run(messages: u32, sender: [AgentNo; 512], number: [u32; 512]) -> bool
     requires { ⌜ (messages ≤ 512) × ((i : ℕ) → i < messages → getD sender i (agentNo 0) .0 < 64) ⌝ }
-    ensures { λ r. ⌜ r ≡ numbersRun sender number messages 0 noCounts ⌝ }
+    ensures { λ r. ⌜ r ≡ numbersFine messages sender number ⌝ }
 {
     let mut counts = [0u32; 64];
     let mut fine = true;
@@ -34,13 +36,20 @@ fn numbers_run(messages: u32, sender: [AgentNo; 512], number: [u32; 512]) -> boo
         counts[place] = next;
         i += 1;
     }
-    fine
+    let mut empty = true;
+    let mut j = messages as usize;
+    while j < 512 {
+        let past = number[j];
+        empty = both(empty, past == 0);
+        j += 1;
+    }
+    both(fine, empty)
 }
 
-// The marked messages are the handed and the closed ones.
+// The marked messages are the handed and the closed ones, and the room past the statuses is empty.
 fn marked_right(messages: u32, status: [Stand; 512], seen: [bool; 512]) -> bool
     requires { ⌜ messages ≤ 512 ⌝ }
-    ensures { λ r. ⌜ r ≡ delivered messages status seen ⌝ }
+    ensures { λ r. ⌜ r ≡ (delivered messages status seen && statusRoom messages status) ⌝ }
 {
     let mut fine = true;
     let mut i: u32 = 0;
@@ -53,13 +62,22 @@ fn marked_right(messages: u32, status: [Stand; 512], seen: [bool; 512]) -> bool
         fine = both(same_flag(seen[at], inbox), fine);
         i += 1;
     }
-    fine
+    let mut empty = true;
+    let mut j = messages as usize;
+    while j < 512 {
+        let past = status[j];
+        let s = past.status;
+        let kind = status_kind(s);
+        empty = both(empty, kind == QUEUED);
+        j += 1;
+    }
+    both(fine, empty)
 }
 
-// The log holds each handed or closed message once, and nothing more.
+// The log holds each handed or closed message once, and nothing more; the room past it and past the statuses is empty.
 fn log_runs(messages: u32, handed: u32, status: [Stand; 512], log: [MailNo; 512]) -> bool
     requires { ⌜ (messages ≤ 512) × (handed ≤ 512) ⌝ }
-    ensures { λ r. ⌜ r ≡ logRuns messages status log handed 0 noMarks ⌝ }
+    ensures { λ r. ⌜ r ≡ logFine messages handed status log ⌝ }
 {
     let mut seen = [false; 512];
     let mut fine = true;
@@ -73,8 +91,15 @@ fn log_runs(messages: u32, handed: u32, status: [Stand; 512], log: [MailNo; 512]
         seen[place] = true;
         i += 1;
     }
+    let mut empty = true;
+    let mut j = handed as usize;
+    while j < 512 {
+        let past = log[j];
+        empty = both(empty, past.0 == 0);
+        j += 1;
+    }
     let complete = marked_right(messages, status, seen);
-    both(fine, complete)
+    both(both(fine, complete), empty)
 }
 
 pub(crate) fn book_fine(

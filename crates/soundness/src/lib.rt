@@ -18,7 +18,7 @@ use records::Lock;
 use records::MailNo;
 use records::Stand;
 use records::flags::both;
-use rooms::room_fine;
+use rooms::number_room;
 
 fn counts_fine(sites: u32, agents: u32, messages: u32, handed: u32) -> bool
     ensures { λ r. ⌜ r ≡ countsFine sites agents messages handed ⌝ }
@@ -39,7 +39,7 @@ fn lock_there(agents: u32, messages: u32, lock: Lock) -> bool
     }
 }
 
-// Each agent, the lock and each message.
+// Each agent, the lock and each message, with the room past agents, senders and addressees.
 fn each_fine(
     sites: u32,
     agents: u32,
@@ -92,18 +92,7 @@ pub fn sound_parts(
     ) {
         return false;
     }
-    let room = room_fine(
-        agents,
-        messages,
-        handed,
-        agent,
-        sender,
-        number,
-        addressee,
-        value,
-        status,
-        log,
-    );
+    let room = number_room(messages, value);
     let book = book_fine(messages, handed, sender, number, status, log);
     both(room, book)
 }

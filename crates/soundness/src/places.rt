@@ -1,4 +1,4 @@
-// A number from a record as an index. The record may hold any number, so one past the array stands for place 0;
+// A number from a record as an index. The record may hold any number, so one past the array stands for some other place;
 // whoever reads there tests the number itself as well.
 ghost use mathlib.Core.Path.{_≡_};
 ghost use Prim.Native.Nat.{_<_};
@@ -8,11 +8,11 @@ use records::MailNo;
 pub(crate) fn agent_place(a: AgentNo) -> usize
     ensures { λ r. ⌜ (r < 64) × (a .0 < 64 → r ≡ a .0) ⌝ }
 {
-    if a.0 < 64 { a.0 as usize } else { 0 }
+    (a.0 % 64) as usize
 }
 
 pub(crate) fn mail_place(m: MailNo) -> usize
     ensures { λ r. ⌜ (r < 512) × (m .0 < 512 → r ≡ m .0) ⌝ }
 {
-    if m.0 < 512 { m.0 as usize } else { 0 }
+    (m.0 % 512) as usize
 }

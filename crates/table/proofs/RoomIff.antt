@@ -12,10 +12,9 @@ use Rattle.records.specs.declared.Status.the-variants.{Queued}
 use Rattle.records.specs.Numbers.{agentNo, mailNo}
 use Rattle.records.specs.Agents.{emptyAgent, isEmptyAgent}
 use Rattle.records.specs.Messages.{isQueued, standing, emptyMessage, emptyEntry}
-use Rattle.records.proofs.FlagLaws.{and-left, and-right, and-both}
 use Rattle.records.proofs.PlaceLaws.{room-each, each-room}
 use Rattle.records.proofs.ReaderLaws.{empty-agent-is, status-is}
-use Rattle.soundness.specs.Tests.{agentRoom, partyRoom, numberRoom, statusRoom, logRoom, roomFine}
+use Rattle.soundness.specs.Tests.{agentRoom, partyRoom, numberRoom, statusRoom, logRoom}
 use Rattle.table.specs.declared.Table.{Table}
 use Rattle.table.specs.Holding.{agentAt, messageAt, logAt}
 use Rattle.table.specs.Soundness.{RoomEmpty}
@@ -34,19 +33,15 @@ abbrev noEntry : MailNo → Bool
 noEntry m = eqb (m .0) 0
 
 module _ (t : Table) where
-  abbrev pub roomTest : Bool
-  roomTest =
-      roomFine
-      (t .agents)
-      (t .messages)
-      (t .handed)
-      (t .agent)
-      (t .sender)
-      (t .number)
-      (t .addressee)
-      (t .value)
-      (t .status)
-      (t .log)
+  -- the tests of the room past each list
+  pub record RoomTests : Type 0 where
+    pub agents : agentRoom (t .agents) (t .agent) ≡ true
+    pub senders : partyRoom (t .messages) (t .sender) ≡ true
+    pub numbers : numberRoom (t .messages) (t .number) ≡ true
+    pub addressees : partyRoom (t .messages) (t .addressee) ≡ true
+    pub values : numberRoom (t .messages) (t .value) ≡ true
+    pub statuses : statusRoom (t .messages) (t .status) ≡ true
+    pub entries : logRoom (t .handed) (t .log) ≡ true
 
   message-empty : partyRoom (t .messages) (t .sender) ≡ true → numberRoom (t .messages) (t .number) ≡ true → partyRoom (t .messages) (t .addressee) ≡ true → numberRoom (t .messages) (t .value) ≡ true → statusRoom (t .messages) (t .status) ≡ true → (i : ℕ) → t .messages ≤ i → messageAt t (mailNo i) ≡ emptyMessage
   unfolding partyRoom numberRoom statusRoom
@@ -60,49 +55,24 @@ module _ (t : Table) where
         status = status-is 0 (messageAt t (mailNo i) .status) (room-each unsent (standing Queued) refl (t .status) (t .messages) hu i le) k;
       }
 
-  pub room-from : roomTest ≡ true → RoomEmpty t
-  unfolding roomFine
+  pub room-from : RoomTests → RoomEmpty t
+  unfolding agentRoom logRoom
   room-from h =
       record {
-        agents = λ i le. empty-agent-is (agentAt t (agentNo i)) (room-each isEmptyAgent emptyAgent refl (t .agent) (t .agents) agents i le);
-        messages = message-empty senders numbers addressees values statuses;
-        log = λ i le. ap mailNo (eqb-true (logAt t i .0) 0 (room-each noEntry emptyEntry refl (t .log) (t .handed) logs i le));
+        agents = λ i le. empty-agent-is (agentAt t (agentNo i)) (room-each isEmptyAgent emptyAgent refl (t .agent) (t .agents) (h .agents) i le);
+        messages = message-empty (h .senders) (h .numbers) (h .addressees) (h .values) (h .statuses);
+        log = λ i le. ap mailNo (eqb-true (logAt t i .0) 0 (room-each noEntry emptyEntry refl (t .log) (t .handed) (h .entries) i le));
       }
-    where
-      agents : agentRoom (t .agents) (t .agent) ≡ true
-      agents = search (and-left, and-right)
 
-      senders : partyRoom (t .messages) (t .sender) ≡ true
-      senders = search (and-left, and-right)
-
-      numbers : numberRoom (t .messages) (t .number) ≡ true
-      numbers = search (and-left, and-right)
-
-      addressees : partyRoom (t .messages) (t .addressee) ≡ true
-      addressees = search (and-left, and-right)
-
-      values : numberRoom (t .messages) (t .value) ≡ true
-      values = search (and-left, and-right)
-
-      statuses : statusRoom (t .messages) (t .status) ≡ true
-      statuses = search (and-left, and-right)
-
-      logs : logRoom (t .handed) (t .log) ≡ true
-      logs = search (and-left, and-right)
-
-  pub room-to : RoomEmpty t → roomTest ≡ true
-  unfolding roomFine
+  pub room-to : RoomEmpty t → RoomTests
+  unfolding agentRoom partyRoom numberRoom statusRoom logRoom
   room-to r =
-      and-both
-      (each-room isEmptyAgent emptyAgent refl (t .agent) (t .agents) (λ i le. ap isEmptyAgent (r .agents i le)))
-      (and-both
-      (each-room noParty (agentNo 0) refl (t .sender) (t .messages) (λ i le. ap (λ (x : Message). noParty (x .sender)) (r .messages i le)))
-      (and-both
-      (each-room noNumber 0 refl (t .number) (t .messages) (λ i le. ap (λ (x : Message). noNumber (x .number)) (r .messages i le)))
-      (and-both
-      (each-room noParty (agentNo 0) refl (t .addressee) (t .messages) (λ i le. ap (λ (x : Message). noParty (x .addressee)) (r .messages i le)))
-      (and-both
-      (each-room noNumber 0 refl (t .value) (t .messages) (λ i le. ap (λ (x : Message). noNumber (x .value)) (r .messages i le)))
-      (and-both
-      (each-room unsent (standing Queued) refl (t .status) (t .messages) (λ i le. ap (λ (x : Message). isQueued (x .status)) (r .messages i le)))
-      (each-room noEntry emptyEntry refl (t .log) (t .handed) (λ i le. ap noEntry (r .log i le))))))))
+      record {
+        agents = each-room isEmptyAgent emptyAgent refl (t .agent) (t .agents) (λ i le. ap isEmptyAgent (r .agents i le));
+        senders = each-room noParty (agentNo 0) refl (t .sender) (t .messages) (λ i le. ap (λ (x : Message). noParty (x .sender)) (r .messages i le));
+        numbers = each-room noNumber 0 refl (t .number) (t .messages) (λ i le. ap (λ (x : Message). noNumber (x .number)) (r .messages i le));
+        addressees = each-room noParty (agentNo 0) refl (t .addressee) (t .messages) (λ i le. ap (λ (x : Message). noParty (x .addressee)) (r .messages i le));
+        values = each-room noNumber 0 refl (t .value) (t .messages) (λ i le. ap (λ (x : Message). noNumber (x .value)) (r .messages i le));
+        statuses = each-room unsent (standing Queued) refl (t .status) (t .messages) (λ i le. ap (λ (x : Message). isQueued (x .status)) (r .messages i le));
+        entries = each-room noEntry emptyEntry refl (t .log) (t .handed) (λ i le. ap noEntry (r .log i le));
+      }

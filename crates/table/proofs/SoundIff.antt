@@ -20,7 +20,7 @@ use Rattle.table.specs.Holding.{IsAgent, IsSite, IsMessage, messageAt, l
 use Rattle.table.specs.Soundness.{CountsInRange, Sound}
 use Rattle.table.specs.Testing.{soundTest}
 use Rattle.table.proofs.CountsIff.{counts-from, counts-to}
-use Rattle.table.proofs.RoomIff.{roomTest, room-from, room-to}
+use Rattle.table.proofs.RoomIff.{RoomTests, room-from, room-to}
 use Rattle.table.proofs.AgentIff.{AgentRight, agent-from, agent-to}
 use Rattle.table.proofs.MessageIff.{MessageRight, message-from, message-to}
 use Rattle.table.proofs.BookIff.{numbers-from, numbers-to, log-from, log-to}
@@ -33,7 +33,7 @@ module _ (t : Table) where
   messageTest = messageFine (t .agents) (lockOf t) (t .agent) (t .sender) (t .addressee) (t .status)
 
   -- a sound table, from what the parts of the test say
-  gathered : CountsInRange t → roomTest t ≡ true → ((a : AgentNo) → IsAgent t a → AgentRight t a) → lockThere (t .agents) (t .messages) (lockOf t) ≡ true → ((m : MailNo) → IsMessage t m → MessageRight t m) → numbersRun (t .sender) (t .number) (t .messages) 0 noCounts ≡ true → logRuns (t .messages) (t .status) (t .log) (t .handed) 0 noMarks ≡ true → Sound t
+  gathered : CountsInRange t → RoomTests t → ((a : AgentNo) → IsAgent t a → AgentRight t a) → lockThere (t .agents) (t .messages) (lockOf t) ≡ true → ((m : MailNo) → IsMessage t m → MessageRight t m) → numbersRun (t .sender) (t .number) (t .messages) 0 noCounts ≡ true → logRuns (t .messages) (t .status) (t .log) (t .handed) 0 noMarks ≡ true → Sound t
   gathered counts room agent there message numbers log =
       record {
         counts = counts;
@@ -92,7 +92,15 @@ module _ (t : Table) where
   sound-from h =
       gathered
       (counts-from t (search (and-left, and-right)))
-      (search (and-left, and-right))
+      (record {
+        agents = search (and-left, and-right);
+        senders = search (and-left, and-right);
+        numbers = search (and-left, and-right);
+        addressees = search (and-left, and-right);
+        values = search (and-left, and-right);
+        statuses = search (and-left, and-right);
+        entries = search (and-left, and-right);
+      })
       (λ a lt. agent-from t a (below-each (t .agents) agentTest agents (a .0) lt))
       (search (and-left, and-right))
       (λ m lt. message-from t m (below-each (t .messages) messageTest messages (m .0) lt))
@@ -141,16 +149,25 @@ module _ (t : Table) where
       and-both
       (counts-to t (s .counts))
       (and-both
-      (room-to t (s .room))
       (and-both
       (and-both
       (each-below (t .agents) agentTest (λ i lt. agent-to t (agentNo i) (agent-right s (agentNo i) lt)))
+      (room .agents))
       (and-both
       (lock-there s (lockOf t) refl)
-      (each-below (t .messages) messageTest (λ i lt. message-to t (mailNo i) (message-right s (mailNo i) lt)))))
+      (and-both
+      (each-below (t .messages) messageTest (λ i lt. message-to t (mailNo i) (message-right s (mailNo i) lt)))
+      (and-both (room .senders) (room .addressees)))))
+      (and-both
+      (room .values)
+      (and-both
       (and-both
       (numbers-to t (λ m lt. lt-of-lt-of-le (s .parties .sender m lt) (s .counts .agentsFit)) (s .numbers))
-      (log-to t (s .counts .messagesFit) (s .log)))))
+      (room .numbers))
+      (and-both (log-to t (s .counts .messagesFit) (s .log)) (and-both (room .statuses) (room .entries))))))
+    where
+      room : RoomTests t
+      room = room-to t (s .room)
 
   pub sound-iff : (soundTest t ≡ true) ↔ Sound t
   sound-iff = (sound-from, sound-to)

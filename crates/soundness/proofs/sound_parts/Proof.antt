@@ -2,10 +2,11 @@
 use borrow.Author.Needs.{needs}
 use Rattle.soundness.proofs.sound_parts.Statement.{statement}
 use Rattle.soundness.proofs.sound_parts.Tie as tie
-use mathlib.Core.Path.{sym, _∙_}
+use mathlib.Core.Path.{sym, ap₂, _∙_}
+use mathlib.Core.Bool.{_&&_}
 use borrow.Author.Tests.{not-true, not-false}
 use Rattle.soundness.specs.Tests.{partsSound}
-use Rattle.soundness.proofs.Limits.{Limits, limits, senders-below, each-refused}
+use Rattle.soundness.proofs.Limits.{Limits, limits, senders-below, each-refused, each-passed}
 
 counts-fine-requires : tie.Need-counts-fine-requires
 counts-fine-requires c κs = search needs
@@ -24,8 +25,8 @@ returns-2 : tie.Need-returns-2
 returns-2 c =
     each-refused (c .before .before .before .before .args .sites) (c .before .before .before .before .args .agents) (c .before .before .before .before .args .messages) (c .before .before .before .before .args .handed) (c .before .before .before .before .args .lock) (c .before .before .before .before .args .agent) (c .before .before .before .before .args .sender) (c .before .before .before .before .args .number) (c .before .before .before .before .args .addressee) (c .before .before .before .before .args .value) (c .before .before .before .before .args .status) (c .before .before .before .before .args .log) (sym (c .before .each-fine .ensures) ∙ not-true (c .before .each-fine .result) (c .if2 .taken))
 
-room-fine-requires : tie.Need-room-fine-requires
-room-fine-requires c κs = search needs
+number-room-requires : tie.Need-number-room-requires
+number-room-requires c κs = search needs
 
 book-fine-requires : tie.Need-book-fine-requires
 book-fine-requires c κs =
@@ -36,9 +37,10 @@ both-requires : tie.Need-both-requires
 both-requires c κs = search needs
 
 returns-3 : tie.Need-returns-3
-unfolding partsSound
 returns-3 c =
-    rw (sym (c .before .before .before .before .before .before .counts-fine .ensures) ∙ not-false (c .before .before .before .before .before .before .counts-fine .result) (c .before .before .before .before .before .if1 .left), sym (c .before .before .before .before .each-fine .ensures) ∙ not-false (c .before .before .before .before .each-fine .result) (c .before .before .before .if2 .left)) (cc)
+    c .both .ensures
+    ∙ (ap₂ _&&_ (c .before .before .number-room .ensures) (c .before .book-fine .ensures)
+    ∙ each-passed (c .before .before .before .before .before .before .before .args .sites) (c .before .before .before .before .before .before .before .args .agents) (c .before .before .before .before .before .before .before .args .messages) (c .before .before .before .before .before .before .before .args .handed) (c .before .before .before .before .before .before .before .args .lock) (c .before .before .before .before .before .before .before .args .agent) (c .before .before .before .before .before .before .before .args .sender) (c .before .before .before .before .before .before .before .args .number) (c .before .before .before .before .before .before .before .args .addressee) (c .before .before .before .before .before .before .before .args .value) (c .before .before .before .before .before .before .before .args .status) (c .before .before .before .before .before .before .before .args .log) (sym (c .before .before .before .before .before .before .counts-fine .ensures) ∙ not-false (c .before .before .before .before .before .before .counts-fine .result) (c .before .before .before .before .before .if1 .left)) (sym (c .before .before .before .before .each-fine .ensures) ∙ not-false (c .before .before .before .before .each-fine .result) (c .before .before .before .if2 .left)))
 
 pub sound-parts-spec : {M : Type 1} → statement M
 sound-parts-spec =
@@ -48,7 +50,7 @@ sound-parts-spec =
     returns
     each-fine-requires
     returns-2
-    room-fine-requires
+    number-room-requires
     book-fine-requires
     both-requires
     returns-3)

@@ -2,15 +2,20 @@
 use Rattle.soundness.proofs.book.marked_right.Statement.{statement}
 use Rattle.soundness.proofs.book.marked_right.Tie as tie
 use borrow.Author.Needs.{needs}
-use Prim.Native.Nat.{ℕ, _-_, _≤_}
-use mathlib.Core.Bool.{Bool, false, Bool·beq}
-use mathlib.Core.Path.{_≡_, refl}
-use lib.ListN.{getD}
+use Prim.Native.Nat.{ℕ, _+_, _-_, _≤_, _<_}
+use mathlib.Core.Bool.{Bool, false, Bool·beq, _&&_}
+use mathlib.Core.Path.{_≡_, refl, ap₂, _∙_}
+use lib.ListN.{getD, drop}
 use Rattle.records.specs.Numbers.{mailNo}
-use Rattle.records.specs.Messages.{isDelivered}
-use Rattle.records.specs.Places.{allBelow}
-use Rattle.soundness.specs.Tests.{delivered, statusIn}
-use Rattle.soundness.proofs.Laws.{below-on, below-end}
+use Rattle.records.specs.Messages.{isDelivered, isQueued, standing}
+use Rattle.records.specs.Places.{allBelow, allOf}
+use Rattle.soundness.specs.Tests.{delivered, statusIn, statusRoom}
+use Rattle.soundness.proofs.Laws.{below-on, below-end, room-on, room-end}
+use Rattle.records.specs.declared.Status.the-variants.{Queued}
+use Rattle.records.specs.declared.Stand.{Stand}
+
+abbrev test : Stand → Bool
+test x = isQueued (x .status)
 
 abbrev Inv-loop : tie.InvT-loop
 Inv-loop messages status seen fine₀ i₀ fine i = (i ≤ messages) × (fine ≡ allBelow i (λ j. Bool·beq (getD seen j false) (isDelivered (statusIn status (mailNo j)))))
@@ -18,58 +23,97 @@ Inv-loop messages status seen fine₀ i₀ fine i = (i ≤ messages) × (fine �
 abbrev μ-loop : tie.MeasureT-loop
 μ-loop messages status seen fine₀ i₀ fine i = messages - i
 
-loop-holds : tie.Need-loop-holds Inv-loop μ-loop
+abbrev Inv-loop2 : tie.InvT-loop2
+Inv-loop2 messages status fine i empty₀ j₀ empty j = allOf test (drop messages status) ≡ (empty && allOf test (drop j status))
+
+abbrev μ-loop2 : tie.MeasureT-loop2
+μ-loop2 messages status fine i empty₀ j₀ empty j = 512 - j
+
+loop-holds : tie.Need-loop-holds Inv-loop μ-loop Inv-loop2 μ-loop2
 unfolding allBelow
 loop-holds c = (search needs, refl)
 
-cast-at : tie.Need-cast-at Inv-loop μ-loop
+cast-at : tie.Need-cast-at Inv-loop μ-loop Inv-loop2 μ-loop2
 cast-at c = search needs
 
-mul-stand : tie.Need-mul-stand Inv-loop μ-loop
+mul-stand : tie.Need-mul-stand Inv-loop μ-loop Inv-loop2 μ-loop2
 mul-stand c = search needs
 
-array-copy-out-stand : tie.Need-array-copy-out-stand Inv-loop μ-loop
+array-copy-out-stand : tie.Need-array-copy-out-stand Inv-loop μ-loop Inv-loop2 μ-loop2
 array-copy-out-stand c = search needs
 
-status-kind-requires : tie.Need-status-kind-requires Inv-loop μ-loop
+status-kind-requires : tie.Need-status-kind-requires Inv-loop μ-loop Inv-loop2 μ-loop2
 status-kind-requires c κs = search needs
 
-either-requires : tie.Need-either-requires Inv-loop μ-loop
+either-requires : tie.Need-either-requires Inv-loop μ-loop Inv-loop2 μ-loop2
 either-requires c κs = search needs
 
-array-read-same-flag : tie.Need-array-read-same-flag Inv-loop μ-loop
+array-read-same-flag : tie.Need-array-read-same-flag Inv-loop μ-loop Inv-loop2 μ-loop2
 array-read-same-flag c = search needs
 
-same-flag-requires : tie.Need-same-flag-requires Inv-loop μ-loop
+same-flag-requires : tie.Need-same-flag-requires Inv-loop μ-loop Inv-loop2 μ-loop2
 same-flag-requires c κs = search needs
 
-both-requires : tie.Need-both-requires Inv-loop μ-loop
+both-requires : tie.Need-both-requires Inv-loop μ-loop Inv-loop2 μ-loop2
 both-requires c κs = search needs
 
-add-i : tie.Need-add-i Inv-loop μ-loop
+add-i : tie.Need-add-i Inv-loop μ-loop Inv-loop2 μ-loop2
 add-i c = search needs
 
-loop-less : tie.Need-loop-less Inv-loop μ-loop
+loop-less : tie.Need-loop-less Inv-loop μ-loop Inv-loop2 μ-loop2
 loop-less c = search needs
 
 -- the test of each message, as it stands where the loop's test is reached
-abbrev tests : tie.At-loop Inv-loop μ-loop → ℕ → Bool
+abbrev tests : tie.At-loop Inv-loop μ-loop Inv-loop2 μ-loop2 → ℕ → Bool
 tests l j =
     Bool·beq (getD (l .before .args .t3) j false) (isDelivered (statusIn (l .before .args .t2) (mailNo j)))
 
-loop-again : tie.Need-loop-again Inv-loop μ-loop
+loop-again : tie.Need-loop-again Inv-loop μ-loop Inv-loop2 μ-loop2
 loop-again c = (
   search needs,
   below-on (tests (c .before .before .before .before .before .before)) (c .before .before .before .before .before .before .loop .i) (c .before .before .before .before .before .before .loop .fine) (c .before .same-flag .result) (c .both .result) (c .before .before .before .before .before .before .loop .inv .1) (cc) (c .both .ensures),
 )
 
-returns : tie.Need-returns Inv-loop μ-loop
+loop2-holds : tie.Need-loop2-holds Inv-loop μ-loop Inv-loop2 μ-loop2
+loop2-holds c = refl
+
+mul-past : tie.Need-mul-past Inv-loop μ-loop Inv-loop2 μ-loop2
+mul-past c = search needs
+
+array-copy-out-past : tie.Need-array-copy-out-past Inv-loop μ-loop Inv-loop2 μ-loop2
+array-copy-out-past c = search needs
+
+status-kind-requires-2 : tie.Need-status-kind-requires-2 Inv-loop μ-loop Inv-loop2 μ-loop2
+status-kind-requires-2 c κs = search needs
+
+both-requires-2 : tie.Need-both-requires-2 Inv-loop μ-loop Inv-loop2 μ-loop2
+both-requires-2 c κs = search needs
+
+add-j : tie.Need-add-j Inv-loop μ-loop Inv-loop2 μ-loop2
+add-j c = search needs
+
+loop2-less : tie.Need-loop2-less Inv-loop μ-loop Inv-loop2 μ-loop2
+loop2-less c = search needs
+
+goes-on2 : (l : tie.At-loop2 Inv-loop μ-loop Inv-loop2 μ-loop2) (next : Bool) → l .loop2 .j < 512 → next ≡ (l .loop2 .empty && test (getD (l .before .before .before .args .t2) (l .loop2 .j) (standing Queued))) → allOf test (drop (l .before .before .before .args .messages) (l .before .before .before .args .t2)) ≡ (next && allOf test (drop (l .loop2 .j + 1) (l .before .before .before .args .t2)))
+goes-on2 l next more step = room-on test (l .before .before .before .args .t2) (standing Queued) (l .before .before .before .args .messages) (l .loop2 .j) (l .loop2 .empty) next (search needs) (l .loop2 .inv) step
+
+loop2-again : tie.Need-loop2-again Inv-loop μ-loop Inv-loop2 μ-loop2
+loop2-again c = goes-on2 (c .before .before .before .before) (c .both2 .result) (search needs) (cc)
+
+room2 : (l : tie.At-loop2 Inv-loop μ-loop Inv-loop2 μ-loop2) → 512 ≤ l .loop2 .j → l .loop2 .empty ≡ statusRoom (l .before .before .before .args .messages) (l .before .before .before .args .t2)
+unfolding statusRoom
+room2 l over = room-end test (l .before .before .before .args .t2) (l .before .before .before .args .messages) (l .loop2 .j) (l .loop2 .empty) (search needs) (l .loop2 .inv)
+
+live : (l : tie.At-loop Inv-loop μ-loop Inv-loop2 μ-loop2) → l .before .args .messages ≤ l .loop .i → l .loop .fine ≡ delivered (l .before .args .messages) (l .before .args .t2) (l .before .args .t3)
 unfolding delivered
-returns c =
-    below-end (tests (c .before)) (c .before .before .args .messages) (c .before .loop .i) (c .before .loop .fine)
-    (search needs)
-    (search needs)
-    (c .before .loop .inv .1)
+live l over = below-end (tests l) (l .before .args .messages) (l .loop .i) (l .loop .fine) (l .loop .inv .0) over (l .loop .inv .1)
+
+both-requires-3 : tie.Need-both-requires-3 Inv-loop μ-loop Inv-loop2 μ-loop2
+both-requires-3 c κs = search needs
+
+returns : tie.Need-returns Inv-loop μ-loop Inv-loop2 μ-loop2
+returns c = c .both3 .ensures ∙ ap₂ _&&_ (live (c .before .before .before .before) (search needs)) (room2 (c .before .before) (search needs))
 
 pub marked-right-spec : {M : Type 1} → statement M
 marked-right-spec =
@@ -77,6 +121,8 @@ marked-right-spec =
     (tie.spec
     Inv-loop
     μ-loop
+    Inv-loop2
+    μ-loop2
     loop-holds
     cast-at
     mul-stand
@@ -89,4 +135,13 @@ marked-right-spec =
     add-i
     loop-less
     loop-again
+    loop2-holds
+    mul-past
+    array-copy-out-past
+    status-kind-requires-2
+    both-requires-2
+    add-j
+    loop2-less
+    loop2-again
+    both-requires-3
     returns)

@@ -2,109 +2,200 @@
 use Rattle.soundness.proofs.messages.messages_fine.Statement.{statement}
 use Rattle.soundness.proofs.messages.messages_fine.Tie as tie
 use borrow.Author.Needs.{needs}
-use Prim.Native.Nat.{ℕ, _-_, _≤_}
-use mathlib.Core.Bool.{Bool, _&&_}
-use mathlib.Core.Path.{_≡_, refl, _∙_}
-use Rattle.records.specs.Places.{allBelow}
-use Rattle.soundness.specs.Tests.{messageFine}
-use Rattle.soundness.proofs.Laws.{below-on, below-end}
-use Rattle.soundness.proofs.Reading.{message-read}
+use Prim.Native.Nat.{ℕ, _+_, _-_, _≤_, _<_}
+use mathlib.Core.Bool.{Bool, true, _&&_}
+use mathlib.Core.Path.{_≡_, refl, sym, ap₂, _∙_}
+use borrow.Author.Tests.{not-true, not-false}
+use Rattle.records.specs.Places.{allBelow, allOf}
+use lib.ListN.{getD, drop}
+use Rattle.records.specs.Agents.{emptyAgent}
+use Rattle.records.specs.Numbers.{agentNo, mailNo}
+use Rattle.soundness.specs.Tests.{messageFine, partyIn, statusIn, partyRoom}
+use Rattle.soundness.proofs.Laws.{below-on, below-off, below-end, fails-first, room-on, room-end}
+use Rattle.soundness.proofs.Reading.{messageRight, message-read}
+use lib.Dec.{eqb}
+use Rattle.records.specs.declared.AgentNo.{AgentNo}
+
+abbrev test : AgentNo → Bool
+test x = eqb (x .0) 0
 
 abbrev Inv-loop : tie.InvT-loop
-Inv-loop agents messages lock agent sender addressee status fine₀ i₀ fine i = (i ≤ messages) × (fine ≡ allBelow i (messageFine agents lock agent sender addressee status))
+Inv-loop agents messages lock agent sender addressee status i₀ i = (i ≤ messages) × (true ≡ allBelow i (messageFine agents lock agent sender addressee status))
 
 abbrev μ-loop : tie.MeasureT-loop
-μ-loop agents messages lock agent sender addressee status fine₀ i₀ fine i = messages - i
+μ-loop agents messages lock agent sender addressee status i₀ i = messages - i
 
-loop-holds : tie.Need-loop-holds Inv-loop μ-loop
+abbrev Inv-loop2 : tie.InvT-loop2
+Inv-loop2 agents messages sender addressee i senders₀ j₀ senders j = allOf test (drop messages sender) ≡ (senders && allOf test (drop j sender))
+
+abbrev μ-loop2 : tie.MeasureT-loop2
+μ-loop2 agents messages sender addressee i senders₀ j₀ senders j = 512 - j
+
+abbrev Inv-loop3 : tie.InvT-loop3
+Inv-loop3 agents messages addressee i senders j addressees₀ k₀ addressees k = allOf test (drop messages addressee) ≡ (addressees && allOf test (drop k addressee))
+
+abbrev μ-loop3 : tie.MeasureT-loop3
+μ-loop3 agents messages addressee i senders j addressees₀ k₀ addressees k = 512 - k
+
+loop-holds : tie.Need-loop-holds Inv-loop μ-loop Inv-loop2 μ-loop2 Inv-loop3 μ-loop3
 unfolding allBelow
 loop-holds c = (search needs, refl)
 
-cast-at : tie.Need-cast-at Inv-loop μ-loop
+cast-at : tie.Need-cast-at Inv-loop μ-loop Inv-loop2 μ-loop2 Inv-loop3 μ-loop3
 cast-at c = search needs
 
-mul-a : tie.Need-mul-a Inv-loop μ-loop
+mul-a : tie.Need-mul-a Inv-loop μ-loop Inv-loop2 μ-loop2 Inv-loop3 μ-loop3
 mul-a c = search needs
 
-array-copy-out-a : tie.Need-array-copy-out-a Inv-loop μ-loop
+array-copy-out-a : tie.Need-array-copy-out-a Inv-loop μ-loop Inv-loop2 μ-loop2 Inv-loop3 μ-loop3
 array-copy-out-a c = search needs
 
-mul-b : tie.Need-mul-b Inv-loop μ-loop
+mul-b : tie.Need-mul-b Inv-loop μ-loop Inv-loop2 μ-loop2 Inv-loop3 μ-loop3
 mul-b c = search needs
 
-array-copy-out-b : tie.Need-array-copy-out-b Inv-loop μ-loop
+array-copy-out-b : tie.Need-array-copy-out-b Inv-loop μ-loop Inv-loop2 μ-loop2 Inv-loop3 μ-loop3
 array-copy-out-b c = search needs
 
-mul-stand : tie.Need-mul-stand Inv-loop μ-loop
+mul-stand : tie.Need-mul-stand Inv-loop μ-loop Inv-loop2 μ-loop2 Inv-loop3 μ-loop3
 mul-stand c = search needs
 
-array-copy-out-stand : tie.Need-array-copy-out-stand Inv-loop μ-loop
+array-copy-out-stand : tie.Need-array-copy-out-stand Inv-loop μ-loop Inv-loop2 μ-loop2 Inv-loop3 μ-loop3
 array-copy-out-stand c = search needs
 
-agent-place-requires : tie.Need-agent-place-requires Inv-loop μ-loop
+agent-place-requires : tie.Need-agent-place-requires Inv-loop μ-loop Inv-loop2 μ-loop2 Inv-loop3 μ-loop3
 agent-place-requires c κs = search needs
 
-agent-place-requires-2 : tie.Need-agent-place-requires-2 Inv-loop μ-loop
+agent-place-requires-2 : tie.Need-agent-place-requires-2 Inv-loop μ-loop Inv-loop2 μ-loop2 Inv-loop3 μ-loop3
 agent-place-requires-2 c κs = search needs
 
-mul-from : tie.Need-mul-from Inv-loop μ-loop
+mul-from : tie.Need-mul-from Inv-loop μ-loop Inv-loop2 μ-loop2 Inv-loop3 μ-loop3
 mul-from c = search needs
 
-array-copy-out-from : tie.Need-array-copy-out-from Inv-loop μ-loop
+array-copy-out-from : tie.Need-array-copy-out-from Inv-loop μ-loop Inv-loop2 μ-loop2 Inv-loop3 μ-loop3
 array-copy-out-from c = search needs
 
-mul-to : tie.Need-mul-to Inv-loop μ-loop
+mul-to : tie.Need-mul-to Inv-loop μ-loop Inv-loop2 μ-loop2 Inv-loop3 μ-loop3
 mul-to c = search needs
 
-array-copy-out-to : tie.Need-array-copy-out-to Inv-loop μ-loop
+array-copy-out-to : tie.Need-array-copy-out-to Inv-loop μ-loop Inv-loop2 μ-loop2 Inv-loop3 μ-loop3
 array-copy-out-to c = search needs
 
-parties-fine-requires : tie.Need-parties-fine-requires Inv-loop μ-loop
+parties-fine-requires : tie.Need-parties-fine-requires Inv-loop μ-loop Inv-loop2 μ-loop2 Inv-loop3 μ-loop3
 parties-fine-requires c κs = search needs
 
-status-right-requires : tie.Need-status-right-requires Inv-loop μ-loop
-status-right-requires c κs = search needs
-
-both-requires : tie.Need-both-requires Inv-loop μ-loop
-both-requires c κs = search needs
-
-both-requires-2 : tie.Need-both-requires-2 Inv-loop μ-loop
-both-requires-2 c κs = search needs
-
-add-i : tie.Need-add-i Inv-loop μ-loop
+add-i : tie.Need-add-i Inv-loop μ-loop Inv-loop2 μ-loop2 Inv-loop3 μ-loop3
 add-i c = search needs
 
-loop-less : tie.Need-loop-less Inv-loop μ-loop
+loop-less : tie.Need-loop-less Inv-loop μ-loop Inv-loop2 μ-loop2 Inv-loop3 μ-loop3
 loop-less c = search needs
 
 -- the test of each message, as it stands where the loop's test is reached
-abbrev tests : tie.At-loop Inv-loop μ-loop → ℕ → Bool
+abbrev tests : tie.At-loop Inv-loop μ-loop Inv-loop2 μ-loop2 Inv-loop3 μ-loop3 → ℕ → Bool
 tests l =
     messageFine (l .before .args .agents) (l .before .args .lock) (l .before .args .t4) (l .before .args .t5)
     (l .before .args .t6)
     (l .before .args .t7)
 
-tested : (c : tie.After-status-right Inv-loop μ-loop) → (c .before .parties-fine .result && c .status-right .result) ≡ tests (c .before .before .before .before .before .before .before .before .before .before) (c .before .before .before .before .before .before .before .before .before .before .loop .i)
-tested c =
-    rw (c .before .parties-fine .ensures, c .status-right .ensures) (message-read (c .before .before .before .before .before .before .before .before .before .before .before .args .agents) (c .before .before .before .before .before .before .before .before .before .before .before .args .lock) (c .before .before .before .before .before .before .before .before .before .before .before .args .t4) (c .before .before .before .before .before .before .before .before .before .before .before .args .t5) (c .before .before .before .before .before .before .before .before .before .before .before .args .t6) (c .before .before .before .before .before .before .before .before .before .before .before .args .t7) (c .before .before .before .before .before .before .before .before .before .before .loop .i)
-    (c .before .before .before .before .before .agent-place .result)
-    (c .before .before .before .before .agent-place2 .result)
-    (c .before .before .before .before .before .before .before .before .before .before .before .pre .0)
-    (c .before .before .before .before .before .agent-place .ensures .1)
-    (c .before .before .before .before .agent-place2 .ensures .1))
+-- the loop's place, from where sender and addressee were read
+abbrev place : tie.After-parties-fine Inv-loop μ-loop Inv-loop2 μ-loop2 Inv-loop3 μ-loop3 → tie.At-loop Inv-loop μ-loop Inv-loop2 μ-loop2 Inv-loop3 μ-loop3
+place c = c .before .before .before .before .before .before .before .before .before
 
-loop-again : tie.Need-loop-again Inv-loop μ-loop
+read : (c : tie.After-parties-fine Inv-loop μ-loop Inv-loop2 μ-loop2 Inv-loop3 μ-loop3) → messageRight (c .before .before .before .before .before .before .before .before .before .before .args .agents) (c .before .before .before .before .before .before .before .before .before .before .args .lock) (c .before .before .before .before .before .before .before .before .before .loop .i) (partyIn (c .before .before .before .before .before .before .before .before .before .before .args .t5) (mailNo (c .before .before .before .before .before .before .before .before .before .loop .i))) (partyIn (c .before .before .before .before .before .before .before .before .before .before .args .t6) (mailNo (c .before .before .before .before .before .before .before .before .before .loop .i))) (getD (c .before .before .before .before .before .before .before .before .before .before .args .t4) (c .before .before .before .before .agent-place .result) emptyAgent) (getD (c .before .before .before .before .before .before .before .before .before .before .args .t4) (c .before .before .before .agent-place2 .result) emptyAgent) (statusIn (c .before .before .before .before .before .before .before .before .before .before .args .t7) (mailNo (c .before .before .before .before .before .before .before .before .before .loop .i))) ≡ tests (place c) (place c .loop .i)
+read c =
+    message-read (c .before .before .before .before .before .before .before .before .before .before .args .agents) (c .before .before .before .before .before .before .before .before .before .before .args .lock) (c .before .before .before .before .before .before .before .before .before .before .args .t4) (c .before .before .before .before .before .before .before .before .before .before .args .t5) (c .before .before .before .before .before .before .before .before .before .before .args .t6) (c .before .before .before .before .before .before .before .before .before .before .args .t7) (c .before .before .before .before .before .before .before .before .before .loop .i)
+    (c .before .before .before .before .agent-place .result)
+    (c .before .before .before .agent-place2 .result)
+    (c .before .before .before .before .before .before .before .before .before .before .pre .0)
+    (c .before .before .before .before .agent-place .ensures .1)
+    (c .before .before .before .agent-place2 .ensures .1)
+
+returns : tie.Need-returns Inv-loop μ-loop Inv-loop2 μ-loop2 Inv-loop3 μ-loop3
+returns c =
+    fails-first _ (below-off (tests (place (c .before))) (place (c .before) .before .args .messages) (place (c .before) .loop .i)
+    (search needs)
+    (sym (read (c .before)) ∙ rw (sym (c .before .parties-fine .ensures) ∙ not-true (c .before .parties-fine .result) (c .if1 .taken))))
+
+status-right-requires : tie.Need-status-right-requires Inv-loop μ-loop Inv-loop2 μ-loop2 Inv-loop3 μ-loop3
+status-right-requires c κs = search needs
+
+returns-2 : tie.Need-returns-2 Inv-loop μ-loop Inv-loop2 μ-loop2 Inv-loop3 μ-loop3
+returns-2 c =
+    fails-first _ (below-off (tests (place (c .before .before .before))) (place (c .before .before .before) .before .args .messages) (place (c .before .before .before) .loop .i)
+    (search needs)
+    (sym (read (c .before .before .before)) ∙ rw (sym (c .before .before .before .parties-fine .ensures) ∙ not-false (c .before .before .before .parties-fine .result) (c .before .before .if1 .left), sym (c .before .status-right .ensures) ∙ not-true (c .before .status-right .result) (c .if2 .taken))))
+
+loop-again : tie.Need-loop-again Inv-loop μ-loop Inv-loop2 μ-loop2 Inv-loop3 μ-loop3
 loop-again c = (
   search needs,
-  below-on (tests (c .before .before .before .before .before .before .before .before .before .before .before .before)) (c .before .before .before .before .before .before .before .before .before .before .before .before .loop .i) (c .before .before .before .before .before .before .before .before .before .before .before .before .loop .fine) (c .before .both .result) (c .both2 .result) (c .before .before .before .before .before .before .before .before .before .before .before .before .loop .inv .1) (c .before .both .ensures ∙ tested (c .before .before)) (c .both2 .ensures),
+  below-on (tests (place (c .before .before .before))) (place (c .before .before .before) .loop .i) true true true (place (c .before .before .before) .loop .inv .1) (sym (sym (read (c .before .before .before)) ∙ rw (sym (c .before .before .before .parties-fine .ensures) ∙ not-false (c .before .before .before .parties-fine .result) (c .before .before .if1 .left), sym (c .before .status-right .ensures) ∙ not-false (c .before .status-right .result) (c .if2 .left)))) refl,
 )
 
-returns : tie.Need-returns Inv-loop μ-loop
-returns c =
-    below-end (tests (c .before)) (c .before .before .args .messages) (c .before .loop .i) (c .before .loop .fine)
-    (search needs)
-    (search needs)
-    (c .before .loop .inv .1)
+loop2-holds : tie.Need-loop2-holds Inv-loop μ-loop Inv-loop2 μ-loop2 Inv-loop3 μ-loop3
+loop2-holds c = refl
+
+mul-past : tie.Need-mul-past Inv-loop μ-loop Inv-loop2 μ-loop2 Inv-loop3 μ-loop3
+mul-past c = search needs
+
+array-copy-out-past : tie.Need-array-copy-out-past Inv-loop μ-loop Inv-loop2 μ-loop2 Inv-loop3 μ-loop3
+array-copy-out-past c = search needs
+
+both-requires : tie.Need-both-requires Inv-loop μ-loop Inv-loop2 μ-loop2 Inv-loop3 μ-loop3
+both-requires c κs = search needs
+
+add-j : tie.Need-add-j Inv-loop μ-loop Inv-loop2 μ-loop2 Inv-loop3 μ-loop3
+add-j c = search needs
+
+loop2-less : tie.Need-loop2-less Inv-loop μ-loop Inv-loop2 μ-loop2 Inv-loop3 μ-loop3
+loop2-less c = search needs
+
+goes-on2 : (l : tie.At-loop2 Inv-loop μ-loop Inv-loop2 μ-loop2 Inv-loop3 μ-loop3) (next : Bool) → l .loop2 .j < 512 → next ≡ (l .loop2 .senders && test (getD (l .before .before .before .args .t5) (l .loop2 .j) (agentNo 0))) → allOf test (drop (l .before .before .before .args .messages) (l .before .before .before .args .t5)) ≡ (next && allOf test (drop (l .loop2 .j + 1) (l .before .before .before .args .t5)))
+goes-on2 l next more step = room-on test (l .before .before .before .args .t5) (agentNo 0) (l .before .before .before .args .messages) (l .loop2 .j) (l .loop2 .senders) next (search needs) (l .loop2 .inv) step
+
+loop2-again : tie.Need-loop2-again Inv-loop μ-loop Inv-loop2 μ-loop2 Inv-loop3 μ-loop3
+loop2-again c = goes-on2 (c .before .before .before .before) (c .both .result) (search needs) (cc)
+
+room2 : (l : tie.At-loop2 Inv-loop μ-loop Inv-loop2 μ-loop2 Inv-loop3 μ-loop3) → 512 ≤ l .loop2 .j → l .loop2 .senders ≡ partyRoom (l .before .before .before .args .messages) (l .before .before .before .args .t5)
+unfolding partyRoom
+room2 l over = room-end test (l .before .before .before .args .t5) (l .before .before .before .args .messages) (l .loop2 .j) (l .loop2 .senders) (search needs) (l .loop2 .inv)
+
+loop3-holds : tie.Need-loop3-holds Inv-loop μ-loop Inv-loop2 μ-loop2 Inv-loop3 μ-loop3
+loop3-holds c = refl
+
+mul-past-2 : tie.Need-mul-past-2 Inv-loop μ-loop Inv-loop2 μ-loop2 Inv-loop3 μ-loop3
+mul-past-2 c = search needs
+
+array-copy-out-past-2 : tie.Need-array-copy-out-past-2 Inv-loop μ-loop Inv-loop2 μ-loop2 Inv-loop3 μ-loop3
+array-copy-out-past-2 c = search needs
+
+both-requires-2 : tie.Need-both-requires-2 Inv-loop μ-loop Inv-loop2 μ-loop2 Inv-loop3 μ-loop3
+both-requires-2 c κs = search needs
+
+add-k : tie.Need-add-k Inv-loop μ-loop Inv-loop2 μ-loop2 Inv-loop3 μ-loop3
+add-k c = search needs
+
+loop3-less : tie.Need-loop3-less Inv-loop μ-loop Inv-loop2 μ-loop2 Inv-loop3 μ-loop3
+loop3-less c = search needs
+
+goes-on3 : (l : tie.At-loop3 Inv-loop μ-loop Inv-loop2 μ-loop2 Inv-loop3 μ-loop3) (next : Bool) → l .loop3 .k < 512 → next ≡ (l .loop3 .addressees && test (getD (l .before .before .before .before .before .args .t6) (l .loop3 .k) (agentNo 0))) → allOf test (drop (l .before .before .before .before .before .args .messages) (l .before .before .before .before .before .args .t6)) ≡ (next && allOf test (drop (l .loop3 .k + 1) (l .before .before .before .before .before .args .t6)))
+goes-on3 l next more step = room-on test (l .before .before .before .before .before .args .t6) (agentNo 0) (l .before .before .before .before .before .args .messages) (l .loop3 .k) (l .loop3 .addressees) next (search needs) (l .loop3 .inv) step
+
+loop3-again : tie.Need-loop3-again Inv-loop μ-loop Inv-loop2 μ-loop2 Inv-loop3 μ-loop3
+loop3-again c = goes-on3 (c .before .before .before .before) (c .both2 .result) (search needs) (cc)
+
+room3 : (l : tie.At-loop3 Inv-loop μ-loop Inv-loop2 μ-loop2 Inv-loop3 μ-loop3) → 512 ≤ l .loop3 .k → l .loop3 .addressees ≡ partyRoom (l .before .before .before .before .before .args .messages) (l .before .before .before .before .before .args .t6)
+unfolding partyRoom
+room3 l over = room-end test (l .before .before .before .before .before .args .t6) (l .before .before .before .before .before .args .messages) (l .loop3 .k) (l .loop3 .addressees) (search needs) (l .loop3 .inv)
+
+live : (l : tie.At-loop Inv-loop μ-loop Inv-loop2 μ-loop2 Inv-loop3 μ-loop3) → l .before .args .messages ≤ l .loop .i → true ≡ allBelow (l .before .args .messages) (tests l)
+live l over = below-end (tests l) (l .before .args .messages) (l .loop .i) true (l .loop .inv .0) over (l .loop .inv .1)
+
+both-requires-3 : tie.Need-both-requires-3 Inv-loop μ-loop Inv-loop2 μ-loop2 Inv-loop3 μ-loop3
+both-requires-3 c κs = search needs
+
+returns-3 : tie.Need-returns-3 Inv-loop μ-loop Inv-loop2 μ-loop2 Inv-loop3 μ-loop3
+returns-3 c =
+    c .both3 .ensures
+    ∙ ap₂ _&&_ (live (c .before .before .before .before .before .before) (search needs)) (ap₂ _&&_ (room2 (c .before .before .before .before) (search needs)) (room3 (c .before .before) (search needs)))
 
 pub messages-fine-spec : {M : Type 1} → statement M
 messages-fine-spec =
@@ -112,6 +203,10 @@ messages-fine-spec =
     (tie.spec
     Inv-loop
     μ-loop
+    Inv-loop2
+    μ-loop2
+    Inv-loop3
+    μ-loop3
     loop-holds
     cast-at
     mul-a
@@ -127,10 +222,25 @@ messages-fine-spec =
     mul-to
     array-copy-out-to
     parties-fine-requires
+    returns
     status-right-requires
-    both-requires
-    both-requires-2
+    returns-2
     add-i
     loop-less
     loop-again
-    returns)
+    loop2-holds
+    mul-past
+    array-copy-out-past
+    both-requires
+    add-j
+    loop2-less
+    loop2-again
+    loop3-holds
+    mul-past-2
+    array-copy-out-past-2
+    both-requires-2
+    add-k
+    loop3-less
+    loop3-again
+    both-requires-3
+    returns-3)

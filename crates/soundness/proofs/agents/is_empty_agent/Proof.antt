@@ -1,7 +1,7 @@
--- `soundness::rooms::is_empty_agent` meets its contract.
+-- `soundness::agents::is_empty_agent` meets its contract.
 use borrow.Author.Needs.{needs}
-use Rattle.soundness.proofs.rooms.is_empty_agent.Statement.{statement}
-use Rattle.soundness.proofs.rooms.is_empty_agent.Tie as tie
+use Rattle.soundness.proofs.agents.is_empty_agent.Statement.{statement}
+use Rattle.soundness.proofs.agents.is_empty_agent.Tie as tie
 
 phase-kind-requires : tie.Need-phase-kind-requires
 phase-kind-requires c κs = search needs
