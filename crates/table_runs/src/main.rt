@@ -1,5 +1,5 @@
 // Runs the plan's steps one after the other and prints what each answers, as CODE,NUMBER; then what is read of a short session's tables. The
-// stored output was worked out from document 01.
+// plan's stored output is what the independent program bench/baseline.rs prints for these steps; the readings' was worked out by hand.
 use libc::STDOUT_FILENO;
 use records::AgentNo;
 use records::Code;
