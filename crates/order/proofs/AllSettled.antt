@@ -17,15 +17,15 @@ use Rattle.records.specs.declared.Status.the-variants.{Queued, Out, Handed, Clo
 use Rattle.records.specs.declared.Lock.the-variants.{ForMove}
 use Rattle.records.specs.Numbers.{agentNo, sameAgent}
 use Rattle.records.specs.Messages.{itemOf, isDelivered}
-use Rattle.table.specs.declared.Table.{Table}
-use Rattle.table.specs.declared.Step.{Step}
-use Rattle.table.specs.Holding.{Shaped, IsAgent, IsMessage, siteOf, phaseOf, mapOf, messageAt, statusOf, lockOf, logOf, inboxOf}
-use Rattle.table.specs.Soundness.{Sound, Delivered, timesLogged}
-use Rattle.table.specs.Steps.{addresseeOf}
-use Rattle.keeping.proofs.Locking.{never}
-use Rattle.keeping.proofs.OneAgent.{Good}
+use Rattle.rules.specs.declared.State.{State}
+use Rattle.rules.specs.declared.Step.{Step}
+use Rattle.rules.specs.Holding.{Shaped, IsAgent, IsMessage, siteOf, phaseOf, mapOf, messageAt, statusOf, lockOf, logOf, inboxOf}
+use Rattle.rules.specs.Soundness.{Sound, Delivered, timesLogged}
+use Rattle.rules.specs.Steps.{addresseeOf}
+use Rattle.preservation.proofs.Locking.{never}
+use Rattle.preservation.proofs.OneAgent.{Good}
 use Rattle.records.proofs.ReaderLaws.{delivered-is}
-use Rattle.keeping.proofs.Hand.{not-logged}
+use Rattle.preservation.proofs.Hand.{not-logged}
 use Rattle.order.specs.Lists.{In}
 use Rattle.order.specs.Marks.{marksOf, tableAfter}
 use Rattle.order.specs.Operations.{Taken}
@@ -34,7 +34,7 @@ use Rattle.order.proofs.BoardLaws.{logged-there}
 use Rattle.order.proofs.Running.{reached}
 use Rattle.order.proofs.Inboxes.{countIn, count-places, in-counted, from-log, in-inbox, times-in}
 
-module _ (t : Table) (g : Good t) where
+module _ (t : State) (g : Good t) where
   -- counted along the log, as soundness counts it by places
   log-count : (m : MailNo) → countIn m (logOf t) ≡ timesLogged t m
   log-count m = count-places m (t .handed) (t .log) (omega (arith, g .0 .log, g .1 .counts .logFits))
@@ -121,7 +121,7 @@ module _ (t : Table) (g : Good t) where
       told a h n (inl e) = inr e
       told a h n (inr d) = inl (g .1 .map a h n d)
 
-module _ (t : Table) (shaped : Shaped t) (sound : Sound t) (ss : List Step) where
+module _ (t : State) (shaped : Shaped t) (sound : Sound t) (ss : List Step) where
   pub mail-settled : MailSettled t ss
   mail-settled =
       let r = reached t (shaped, sound) ss in

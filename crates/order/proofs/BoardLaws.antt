@@ -13,10 +13,10 @@ use Rattle.records.specs.declared.MailNo.{MailNo}
 use Rattle.records.specs.declared.Item.{Item}
 use Rattle.records.specs.Numbers.{sameAgent}
 use Rattle.records.specs.Messages.{itemOf, emptyEntry}
-use Rattle.table.specs.declared.Table.{Table}
-use Rattle.table.specs.Holding.{IsMessage, messageAt, siteOf, logOf, inboxFrom, inboxOf}
-use Rattle.table.specs.Soundness.{Sound}
-use Rattle.table.specs.Steps.{addresseeOf}
+use Rattle.rules.specs.declared.State.{State}
+use Rattle.rules.specs.Holding.{IsMessage, messageAt, siteOf, logOf, inboxFrom, inboxOf}
+use Rattle.rules.specs.Soundness.{Sound}
+use Rattle.rules.specs.Steps.{addresseeOf}
 use Rattle.order.specs.Lists.{In}
 use Rattle.order.specs.Operations.{Operation, creation, move, message}
 use Rattle.order.specs.Boards.{Board, put, putAll, Finds, FindsAll, boardOf}
@@ -39,14 +39,14 @@ in-take (suc n) (y ∷ ys) d x (inl e) = (0, omega arith, sym e)
 in-take (suc n) (y ∷ ys) d x (inr h) = let found = in-take n ys d x h in (suc (found .0), omega (arith, found .1), found .2)
 
 -- what stands in the log of a sound table is a message
-pub logged-there : (t : Table) → Sound t → (k : MailNo) → In k (logOf t) → IsMessage t k
+pub logged-there : (t : State) → Sound t → (k : MailNo) → In k (logOf t) → IsMessage t k
 logged-there t s k h =
     let at = in-take (t .handed) (t .log) emptyEntry k h in
     subst (IsMessage t) (at .2) (s .log .only (at .0) (at .1) .0)
 
 -- an inbox looks only at the addressee of the messages in the log, and at what is read of them
 pub inbox-same :
-    (t t′ : Table) (a : AgentNo) (l : List MailNo)
+    (t t′ : State) (a : AgentNo) (l : List MailNo)
     → ((m : MailNo) → In m l → (addresseeOf t′ m ≡ addresseeOf t m) × (itemOf (messageAt t′ m) ≡ itemOf (messageAt t m)))
     → inboxFrom t′ a l ≡ inboxFrom t a l
 unfolding inboxFrom
@@ -64,7 +64,7 @@ joined false true x l y = refl
 joined false false x l y = refl
 
 pub inbox-more :
-    (t : Table) (a : AgentNo) (l : List MailNo) (m : MailNo)
+    (t : State) (a : AgentNo) (l : List MailNo) (m : MailNo)
     → inboxFrom t a (l ++ (m ∷ []))
     ≡ cond (sameAgent (addresseeOf t m) a) (inboxFrom t a l ++ (itemOf (messageAt t m) ∷ [])) (inboxFrom t a l)
 unfolding inboxFrom
@@ -75,7 +75,7 @@ inbox-more t a (k ∷ ks) m =
 
 -- the same log of messages that are read the same
 pub inboxes-same :
-    (t t′ : Table)
+    (t t′ : State)
     → logOf t′ ≡ logOf t
     → ((m : MailNo) → In m (logOf t) → (addresseeOf t′ m ≡ addresseeOf t m) × (itemOf (messageAt t′ m) ≡ itemOf (messageAt t m)))
     → (a : AgentNo)
@@ -85,7 +85,7 @@ inboxes-same t t′ log mail a = ap (inboxFrom t′ a) log ∙ inbox-same t t′
 
 -- a step that moves nobody and hands nothing over
 pub board-same :
-    (t t′ : Table)
+    (t t′ : State)
     → t′ .agents ≡ t .agents
     → ((a : AgentNo) → siteOf t′ a ≡ siteOf t a)
     → logOf t′ ≡ logOf t
@@ -96,7 +96,7 @@ board-same t t′ count sites log mail =
 
 -- a creation, a move
 pub board-created :
-    (t t′ : Table) (p c : AgentNo)
+    (t t′ : State) (p c : AgentNo)
     → t′ .agents ≡ suc (t .agents)
     → ((a : AgentNo) → siteOf t′ a ≡ cond (eqb (t .agents) (a .0)) (siteOf t p) (siteOf t a))
     → ((a : AgentNo) → inboxOf t′ a ≡ inboxOf t a)
@@ -105,7 +105,7 @@ board-created t t′ p c count sites inboxes =
     λ i. record { count = sym count i; site = λ a. sym (sites a) i; inbox = λ a. sym (inboxes a) i }
 
 pub board-moved :
-    (t t′ : Table) (a : AgentNo) (k : ℕ) (u : SiteNo)
+    (t t′ : State) (a : AgentNo) (k : ℕ) (u : SiteNo)
     → t′ .agents ≡ t .agents
     → ((b : AgentNo) → siteOf t′ b ≡ cond (sameAgent a b) u (siteOf t b))
     → ((b : AgentNo) → inboxOf t′ b ≡ inboxOf t b)
@@ -115,7 +115,7 @@ board-moved t t′ a k u count sites inboxes =
 
 -- a message handed over
 pub board-handed :
-    (t t′ : Table) (m : MailNo)
+    (t t′ : State) (m : MailNo)
     → t′ .agents ≡ t .agents
     → ((a : AgentNo) → siteOf t′ a ≡ siteOf t a)
     → logOf t′ ≡ logOf t ++ (m ∷ [])

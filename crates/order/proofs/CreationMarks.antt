@@ -13,15 +13,15 @@ use Rattle.records.specs.declared.Agent.{Agent}
 use Rattle.records.specs.declared.Phase.the-variants.{Free, Spawning, Born, Enrolled}
 use Rattle.records.specs.Numbers.{agentNo}
 use Rattle.records.specs.Agents.{bornOf}
-use Rattle.table.specs.declared.Table.{Table}
-use Rattle.table.specs.Holding.{mostAgents, IsAgent, siteOf, phaseOf, nextAgent, withNewAgent}
-use Rattle.table.specs.Steps.{toPhase}
-use Rattle.keeping.proofs.Places.{first, second, neither}
-use Rattle.keeping.proofs.Locking.{never}
-use Rattle.keeping.proofs.Greet
-use Rattle.keeping.proofs.Greet.{greet-good}
-use Rattle.keeping.proofs.Spawn
-use Rattle.keeping.proofs.Spawn.{spawn-good}
+use Rattle.rules.specs.declared.State.{State}
+use Rattle.rules.specs.Holding.{mostAgents, IsAgent, siteOf, phaseOf, nextAgent, withNewAgent}
+use Rattle.rules.specs.Steps.{toPhase}
+use Rattle.preservation.proofs.Places.{first, second, neither}
+use Rattle.preservation.proofs.Locking.{never}
+use Rattle.preservation.proofs.Greet
+use Rattle.preservation.proofs.Greet.{greet-good}
+use Rattle.preservation.proofs.Spawn
+use Rattle.preservation.proofs.Spawn.{spawn-good}
 use Rattle.order.specs.Lists.{In}
 use Rattle.order.specs.Marks.{Mark, creates, greets, leaves, hands, At}
 use Rattle.order.specs.Operations.{Operation, creation, move, message, child, nameOf, EffectAt, OverAt}
@@ -31,7 +31,7 @@ use Rattle.order.proofs.LinkSteps.{creations-on, move-idle, move-as}
 use Rattle.order.proofs.BoardLaws.{inboxes-same, board-same, board-created}
 use Rattle.order.proofs.Invariant.{Inv, inv-quiet, inv-effect, new-plain, mail-same, move-same}
 
-module _ (start : Table) (ms : List Mark) (t : Table) (order : List Operation) (v : Inv start ms t order) where
+module _ (start : State) (ms : List Mark) (t : State) (order : List Operation) (v : Inv start ms t order) where
   pub greet-on :
       (b p : AgentNo)
       → IsAgent t b
@@ -62,7 +62,7 @@ module _ (start : Table) (ms : List Mark) (t : Table) (order : List Operation) (
       (mail-same start ms (greets b) t (t .agents) (after .agent) (t .held) (v .mail) (λ e. omega arith) (λ e. omega arith) (λ e. omega arith))
       (board-same t after refl (Greet.site-kept t (v .good) b p there e) refl (λ m h. (refl, refl)))
     where
-      after : Table
+      after : State
       after = toPhase (toPhase t b Free) p Free
 
       moves : (c : AgentNo) → MoveLink start (more ms (greets b)) c (phaseOf after c)
@@ -74,9 +74,9 @@ module _ (start : Table) (ms : List Mark) (t : Table) (order : List Operation) (
               move-as r (move-same start ms (greets b) t c (v .moves) refl (λ q. never (cc)) (λ q. never (cc)))
 
 module _
-    (start : Table)
+    (start : State)
     (ms : List Mark)
-    (t : Table)
+    (t : State)
     (order : List Operation)
     (v : Inv start ms t order)
     (a : AgentNo)
@@ -87,7 +87,7 @@ module _
     abbrev new : AgentNo
     new = nextAgent t
 
-    abbrev after : Table
+    abbrev after : State
     after = withNewAgent (toPhase t a (Spawning new)) (bornOf a (siteOf t a))
 
     abbrev mark : Mark

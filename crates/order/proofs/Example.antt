@@ -4,9 +4,9 @@ use mathlib.Core.Path.{_≡_, refl}
 use mathlib.Core.List.{List, [], _∷_}
 use Rattle.records.specs.Numbers.{agentNo, siteNo, mailNo}
 use Rattle.records.specs.declared.Item.{Item}
-use Rattle.table.specs.declared.Step.{Step}
-use Rattle.table.specs.declared.Step.the-variants.{Spawn, Ask, Send, Enrol, Greet, Grant, Leap, Book, Settle, Forward, Hand, Close}
-use Rattle.table.specs.Steps.{opened}
+use Rattle.rules.specs.declared.Step.{Step}
+use Rattle.rules.specs.declared.Step.the-variants.{Spawn, Ask, Send, Enrol, Greet, Grant, Leap, Book, Settle, Forward, Hand, Close}
+use Rattle.rules.specs.Steps.{opened}
 use Rattle.order.specs.Marks.{creates, greets, asks, leaves, settles, takes, hands, closes, nothing, marksOf}
 
 abbrev steps : List Step

@@ -7,7 +7,7 @@ use lib.ListN.{length, take, length-append}
 use native.Mathlib.Numerals.{add-one}
 use native.Mathlib.Decide.{decLt}
 use native.Mathlib.Omega.{arith}
-use Rattle.table.specs.declared.Table.{Table}
+use Rattle.rules.specs.declared.State.{State}
 use Rattle.order.specs.Lists.{In, Distinct, StandsBefore}
 use Rattle.order.specs.Marks.{Mark, creates, takes, movesBegun}
 use Rattle.order.specs.Operations.{Operation, creation, move, message, nameOf, BeginsAt, EffectAt, OverAt}
@@ -17,7 +17,7 @@ use Rattle.order.proofs.Links.{CreationLinks, MailLinks, New}
 use Rattle.order.proofs.Places.{begun-then, effect-old, effect-below, begins-below, begins-back, effect-back, over-back}
 
 -- what is stated of the order, for the marks so far
-pub record Ordered (first : Table) (ms : List Mark) (order : List Operation) : Type 0 where
+pub record Ordered (first : State) (ms : List Mark) (order : List Operation) : Type 0 where
   pub exactly : (x : Operation) → In x order ↔ ((i : ℕ) × EffectAt first ms x i)
   pub once : Distinct (map nameOf order)
   pub inTime :
@@ -31,10 +31,10 @@ pub record Ordered (first : Table) (ms : List Mark) (order : List Operation) : T
       → StandsBefore x y order
 
 module _
-    (first : Table)
+    (first : State)
     (ms : List Mark)
     (x : Mark)
-    (t : Table)
+    (t : State)
     (order : List Operation)
     (creations : CreationLinks ms t)
     (mail : MailLinks first ms t)

@@ -13,14 +13,14 @@ use Rattle.records.specs.declared.MailNo.{MailNo}
 use Rattle.records.specs.declared.Item.{Item}
 use Rattle.records.specs.declared.Status.the-variants.{Out, Handed}
 use Rattle.records.specs.Messages.{itemOf, isDelivered}
-use Rattle.table.specs.declared.Table.{Table}
-use Rattle.table.specs.Holding.{IsMessage, messageAt, statusOf, logOf, withStatus, withLogged}
-use Rattle.table.specs.Steps.{addresseeOf}
-use Rattle.keeping.proofs.Places.{Seen, changed, kept}
-use Rattle.keeping.proofs.Locking.{never}
-use Rattle.keeping.proofs.OneMessage.{status-now}
-use Rattle.keeping.proofs.Hand.{log-shorter, hand-good}
-use Rattle.keeping.proofs.Letters.{one-letter}
+use Rattle.rules.specs.declared.State.{State}
+use Rattle.rules.specs.Holding.{IsMessage, messageAt, statusOf, logOf, withStatus, withLogged}
+use Rattle.rules.specs.Steps.{addresseeOf}
+use Rattle.preservation.proofs.Places.{Seen, changed, kept}
+use Rattle.preservation.proofs.Locking.{never}
+use Rattle.preservation.proofs.OneMessage.{status-now}
+use Rattle.preservation.proofs.Hand.{log-shorter, hand-good}
+use Rattle.preservation.proofs.Letters.{one-letter}
 use Rattle.order.specs.Lists.{In}
 use Rattle.order.specs.Marks.{Mark, creates, leaves, hands, closes, At}
 use Rattle.order.specs.Operations.{Operation, creation, move, message, nameOf, Taken, EffectAt, OverAt}
@@ -33,9 +33,9 @@ use Rattle.order.proofs.Invariant.{Inv, inv-effect, new-plain, creation
 use Rattle.order.proofs.MailMarks.{still-closed, status-is}
 
 module _
-    (start : Table)
+    (start : State)
     (ms : List Mark)
-    (t : Table)
+    (t : State)
     (order : List Operation)
     (v : Inv start ms t order)
     (m : MailNo)
@@ -43,7 +43,7 @@ module _
     (s : SiteNo)
     (e : statusOf t m ≡ Out s)
   where
-    abbrev after : Table
+    abbrev after : State
     after = withLogged (withStatus t m Handed) m
 
     abbrev mark : Mark

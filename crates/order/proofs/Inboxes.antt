@@ -16,13 +16,13 @@ use Rattle.records.specs.declared.Item.{Item}
 use Rattle.records.specs.Numbers.{agentNo, mailNo, sameAgent, sameMail}
 use Rattle.records.specs.Messages.{itemOf, emptyEntry}
 use Rattle.records.specs.Places.{countBelow}
-use Rattle.table.specs.declared.Table.{Table}
-use Rattle.table.specs.Holding.{IsMessage, messageAt, inboxFrom}
-use Rattle.table.specs.Soundness.{Sound}
-use Rattle.table.specs.Steps.{addresseeOf}
+use Rattle.rules.specs.declared.State.{State}
+use Rattle.rules.specs.Holding.{IsMessage, messageAt, inboxFrom}
+use Rattle.rules.specs.Soundness.{Sound}
+use Rattle.rules.specs.Steps.{addresseeOf}
 use Rattle.records.proofs.FlagLaws.{and-left, and-right}
 use Rattle.records.proofs.PlaceLaws.{count-hit, count-miss}
-use Rattle.keeping.proofs.Letters.{one-letter}
+use Rattle.preservation.proofs.Letters.{one-letter}
 use Rattle.order.specs.Lists.{In}
 use Rattle.order.specs.Settled.{timesIn}
 
@@ -67,7 +67,7 @@ in-counted m (k ∷ ks) h = told (sameMail k m) refl (λ c. in-counted m ks c)
         inr (rest (omega arith))
 
 -- an item of an inbox is a message of the log, addressed to it
-pub from-log : (t : Table) (a : AgentNo) (l : List MailNo) (x : Item) → In x (inboxFrom t a l) → (m : MailNo) × In m l × (addresseeOf t m ≡ a) × (itemOf (messageAt t m) ≡ x)
+pub from-log : (t : State) (a : AgentNo) (l : List MailNo) (x : Item) → In x (inboxFrom t a l) → (m : MailNo) × In m l × (addresseeOf t m ≡ a) × (itemOf (messageAt t m) ≡ x)
 unfolding inboxFrom
 from-log t a [] x h = absurd h
 from-log t a (k ∷ ks) x h = told (sameAgent (addresseeOf t k) a) refl h (λ w. from-log t a ks x w)
@@ -86,7 +86,7 @@ from-log t a (k ∷ ks) x h = told (sameAgent (addresseeOf t k) a) refl h (λ w.
     told false e w rest = later (rest w)
 
 -- a message of the log stands in its addressee's inbox
-pub in-inbox : (t : Table) (m : MailNo) (l : List MailNo) → In m l → In (itemOf (messageAt t m)) (inboxFrom t (addresseeOf t m) l)
+pub in-inbox : (t : State) (m : MailNo) (l : List MailNo) → In m l → In (itemOf (messageAt t m)) (inboxFrom t (addresseeOf t m) l)
 unfolding inboxFrom
 in-inbox t m [] h = absurd h
 in-inbox t m (k ∷ ks) (inl e) =
@@ -127,7 +127,7 @@ cond-zero : (c : Bool) → _≡_ {A = ℕ} 0 (cond c 0 0)
 cond-zero true = refl
 cond-zero false = refl
 
-module _ (t : Table) (s : Sound t) (m : MailNo) (here : IsMessage t m) (a : AgentNo) where
+module _ (t : State) (s : Sound t) (m : MailNo) (here : IsMessage t m) (a : AgentNo) where
   -- among messages, the same sender and number are those of m alone
   alike-is : (k : MailNo) → IsMessage t k → alike (itemOf (messageAt t k)) (itemOf (messageAt t m)) ≡ sameMail k m
   alike-is k there = which (ℕ-discrete (k .0) (m .0))

@@ -8,10 +8,10 @@ use native.Mathlib.Omega.{arith}
 use Rattle.records.specs.declared.AgentNo.{AgentNo}
 use Rattle.records.specs.declared.Agent.{Agent}
 use Rattle.records.specs.declared.Held.{Held}
-use Rattle.table.specs.declared.Table.{Table}
-use Rattle.table.specs.Holding.{phaseOf}
-use Rattle.keeping.proofs.OneAgent.{Good}
-use Rattle.keeping.proofs.AgentSteps.{withAgentsHeld}
+use Rattle.rules.specs.declared.State.{State}
+use Rattle.rules.specs.Holding.{phaseOf}
+use Rattle.preservation.proofs.OneAgent.{Good}
+use Rattle.preservation.proofs.AgentSteps.{withAgentsHeld}
 use Rattle.order.specs.Lists.{In}
 use Rattle.order.specs.Marks.{Mark, nothing, creates, greets, asks, leaves, settles, takes, hands, closes, asksOf}
 use Rattle.order.specs.Operations.{Operation, creation, move, message, nameOf, EffectAt, OverAt}
@@ -22,7 +22,7 @@ use Rattle.order.proofs.LinkSteps.{creations-on, move-on, mail-on}
 use Rattle.order.proofs.Extending.{Ordered, order-same, order-more}
 use Rattle.order.proofs.BoardLaws.{put-last, finds-last}
 
-pub record Inv (first : Table) (ms : List Mark) (t : Table) (order : List Operation) : Type 0 where
+pub record Inv (first : State) (ms : List Mark) (t : State) (order : List Operation) : Type 0 where
   pub good : Good t
   pub creations : CreationLinks ms t
   pub moves : MoveLinks first ms t
@@ -43,7 +43,7 @@ tagOf (asks a u) = 6
 tagOf (settles a) = 7
 tagOf nothing = 8
 
-module _ (first : Table) (ms : List Mark) (x : Mark) where
+module _ (first : State) (ms : List Mark) (x : Mark) where
   -- a mark that is none of the three is no effect
   no-effect : 3 ≤ tagOf x → (y : Operation) → EffectAt first (more ms x) y (length ms) → ⊥
   no-effect h (creation p c) w = omega (arith, ap tagOf (sym (at-last ms x) ∙ w))
@@ -51,7 +51,7 @@ module _ (first : Table) (ms : List Mark) (x : Mark) where
   no-effect h (message b y) w = omega (arith, ap tagOf (sym (at-last ms x) ∙ w .2))
 
   pub inv-quiet :
-      (t t′ : Table) (order : List Operation)
+      (t t′ : State) (order : List Operation)
       → Inv first ms t order
       → 3 ≤ tagOf x
       → New t x
@@ -73,7 +73,7 @@ module _ (first : Table) (ms : List Mark) (x : Mark) where
       }
 
   pub inv-effect :
-      (t t′ : Table) (order : List Operation) (z : Operation)
+      (t t′ : State) (order : List Operation) (z : Operation)
       → Inv first ms t order
       → New t x
       → Good t′
@@ -99,7 +99,7 @@ module _ (first : Table) (ms : List Mark) (x : Mark) where
       }
 
   -- a mark that creates nobody and takes no message
-  pub new-plain : (t : Table) → (tagOf x ≡ 0 → ⊥) → (tagOf x ≡ 3 → ⊥) → New t x
+  pub new-plain : (t : State) → (tagOf x ≡ 0 → ⊥) → (tagOf x ≡ 3 → ⊥) → New t x
   new-plain t n k =
       record {
         create = λ p c e. absurd (n (ap tagOf e));
@@ -108,7 +108,7 @@ module _ (first : Table) (ms : List Mark) (x : Mark) where
 
   -- a mark that neither creates nor greets
   pub creations-same :
-      (t t′ : Table)
+      (t t′ : State)
       → CreationLinks ms t
       → t .agents ≤ t′ .agents
       → (tagOf x ≡ 0 → ⊥)
@@ -119,7 +119,7 @@ module _ (first : Table) (ms : List Mark) (x : Mark) where
 
   -- a mark of no message, where only agents and the lock change
   pub mail-same :
-      (t : Table) (n : ℕ) (l : List Agent) (h : Held)
+      (t : State) (n : ℕ) (l : List Agent) (h : Held)
       → MailLinks first ms t
       → (tagOf x ≡ 2 → ⊥)
       → (tagOf x ≡ 3 → ⊥)
@@ -143,7 +143,7 @@ module _ (first : Table) (ms : List Mark) (x : Mark) where
 
   -- an agent in the same phase, and a mark that is not its own
   pub move-same :
-      (t : Table) (a : AgentNo)
+      (t : State) (a : AgentNo)
       → MoveLinks first ms t
       → asksOf a x ≡ false
       → (x ≡ leaves a → ⊥)

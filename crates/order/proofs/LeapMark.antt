@@ -14,12 +14,12 @@ use Rattle.records.specs.declared.Agent.{Agent}
 use Rattle.records.specs.declared.Phase.the-variants.{Granted, Landed}
 use Rattle.records.specs.Numbers.{agentNo, sameAgent}
 use Rattle.records.specs.Agents.{withPhase, movedTo}
-use Rattle.table.specs.declared.Table.{Table}
-use Rattle.table.specs.Holding.{IsAgent, agentAt, siteOf, phaseOf, withAgent}
-use Rattle.keeping.proofs.Places.{Seen, changed, kept, seen-agent}
-use Rattle.keeping.proofs.Locking.{never}
-use Rattle.keeping.proofs.OneAgent.{agent-place}
-use Rattle.keeping.proofs.Moves.{leap-good}
+use Rattle.rules.specs.declared.State.{State}
+use Rattle.rules.specs.Holding.{IsAgent, agentAt, siteOf, phaseOf, withAgent}
+use Rattle.preservation.proofs.Places.{Seen, changed, kept, seen-agent}
+use Rattle.preservation.proofs.Locking.{never}
+use Rattle.preservation.proofs.OneAgent.{agent-place}
+use Rattle.preservation.proofs.Moves.{leap-good}
 use Rattle.order.specs.Lists.{In}
 use Rattle.order.specs.Marks.{Mark, creates, leaves, settles, hands, At, inMove, movesBegun}
 use Rattle.order.specs.Operations.{Operation, creation, move, message, turn, nameOf, Targets, EffectAt, OverAt}
@@ -32,9 +32,9 @@ use Rattle.order.proofs.Invariant.{Inv, inv-effect, new-plain, creation
 use Rattle.order.proofs.OneAgentMarks.{moves-one}
 
 module _
-    (start : Table)
+    (start : State)
     (ms : List Mark)
-    (t : Table)
+    (t : State)
     (order : List Operation)
     (v : Inv start ms t order)
     (a : AgentNo)
@@ -45,7 +45,7 @@ module _
     abbrev landed : Agent
     landed = movedTo (withPhase (agentAt t a) Landed) u
 
-    abbrev after : Table
+    abbrev after : State
     after = withAgent t a landed
 
     abbrev mark : Mark

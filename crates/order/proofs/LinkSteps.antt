@@ -17,10 +17,10 @@ use Rattle.records.specs.declared.Phase.{Phase}
 use Rattle.records.specs.declared.Phase.the-variants.{Asking}
 use Rattle.records.specs.declared.Status.the-variants.{Closed}
 use Rattle.records.specs.Messages.{itemOf, isDelivered}
-use Rattle.table.specs.declared.Table.{Table}
-use Rattle.table.specs.Holding.{IsMessage, phaseOf, messageAt, statusOf}
-use Rattle.table.specs.Steps.{addresseeOf}
-use Rattle.keeping.proofs.Locking.{never}
+use Rattle.rules.specs.declared.State.{State}
+use Rattle.rules.specs.Holding.{IsMessage, phaseOf, messageAt, statusOf}
+use Rattle.rules.specs.Steps.{addresseeOf}
+use Rattle.preservation.proofs.Locking.{never}
 use Rattle.order.specs.Marks.{Mark, nothing, creates, greets, asks, leaves, settles, takes, hands, closes, At, inMove, asksOf, movesBegun}
 use Rattle.order.specs.Operations.{Targets, Taken}
 use Rattle.order.proofs.MarkLaws.{more, at-last, at-snoc, begun-most, begun-other, begun-asked, begun-less}
@@ -28,7 +28,7 @@ use Rattle.order.proofs.Links.{CreationLinks, PendingTo, MoveLink, Mail
 use Rattle.order.proofs.Places.{begun-then, begun-old, targets-old, targets-back, taken-old, taken-back}
 
 pub creations-on :
-    (ms : List Mark) (x : Mark) (t t′ : Table)
+    (ms : List Mark) (x : Mark) (t t′ : State)
     → CreationLinks ms t
     → t .agents ≤ t′ .agents
     → ((p c : AgentNo) → x ≡ creates p c → c .0 < t′ .agents)
@@ -49,11 +49,11 @@ creations-on ms x t t′ old grows created greeted =
     second c (inr w) = greeted c (w .1)
 
 -- what is known of an agent's moves is known by its phase alone
-pub move-as : {first : Table} {ms : List Mark} {a : AgentNo} {x y : Agent} → x ≡ y → MoveLink first ms a (y .phase) → MoveLink first ms a (x .phase)
+pub move-as : {first : State} {ms : List Mark} {a : AgentNo} {x y : Agent} → x ≡ y → MoveLink first ms a (y .phase) → MoveLink first ms a (x .phase)
 move-as {first} {ms} {a} e = subst (λ (z : Agent). MoveLink first ms a (z .phase)) (sym e)
 
 -- an agent that is not in a move
-pub move-idle : (first : Table) (ms : List Mark) (a : AgentNo) (p : Phase) → inMove p ≡ false → MoveLink first ms a p
+pub move-idle : (first : State) (ms : List Mark) (a : AgentNo) (p : Phase) → inMove p ≡ false → MoveLink first ms a p
 move-idle first ms a p e =
     record {
       pending = λ u h. absurd (idle u h);
@@ -65,7 +65,7 @@ move-idle first ms a p e =
     idle u (inl h) = true≢false (sym (ap inMove h) ∙ e)
     idle u (inr h) = true≢false (sym (ap inMove h) ∙ e)
 
-module _ (first : Table) (ms : List Mark) (x : Mark) (a : AgentNo) where
+module _ (first : State) (ms : List Mark) (x : Mark) (a : AgentNo) where
   -- an earlier mark stands where fewer have begun, still
   less-old :
       (y : Mark)
@@ -118,7 +118,7 @@ module _ (first : Table) (ms : List Mark) (x : Mark) (a : AgentNo) where
       whole = ap (λ (l : List Mark). movesBegun first l a) (take-length ms)
 
 -- a move begins: it is the last, and nothing has become of it
-module _ (first : Table) (ms : List Mark) (a : AgentNo) (u : SiteNo) where
+module _ (first : State) (ms : List Mark) (a : AgentNo) (u : SiteNo) where
   abbrev asked : List Mark
   asked = more ms (asks a u)
 
@@ -175,7 +175,7 @@ module _ (first : Table) (ms : List Mark) (a : AgentNo) (u : SiteNo) where
 
 -- Messages: none is taken, and what was delivered or closed stays so.
 pub mail-on :
-    (first : Table) (ms : List Mark) (x : Mark) (t t′ : Table)
+    (first : State) (ms : List Mark) (x : Mark) (t t′ : State)
     → MailLinks first ms t
     → t .messages ≡ t′ .messages
     → ((m : MailNo) → (addresseeOf t′ m ≡ addresseeOf t m) × (itemOf (messageAt t′ m) ≡ itemOf (messageAt t m)))
@@ -218,7 +218,7 @@ mail-on first ms x t t′ old count same delivered closed none hand close =
 
 -- one more message is taken, and no other is changed
 pub mail-taken :
-    (first : Table) (ms : List Mark) (x : Mark) (t t′ : Table) (new : MailNo)
+    (first : State) (ms : List Mark) (x : Mark) (t t′ : State) (new : MailNo)
     → MailLinks first ms t
     → ((m : MailNo) → IsMessage t m → IsMessage t′ m × (messageAt t′ m ≡ messageAt t m))
     → ((m : MailNo) → IsMessage t′ m → IsMessage t m ⊎ (m ≡ new))

@@ -14,14 +14,14 @@ use Rattle.records.specs.declared.Status.the-variants.{Queued, Out, Handed, Clo
 use Rattle.records.specs.declared.Lock.{Lock}
 use Rattle.records.specs.declared.Lock.the-variants.{Unheld, ForMail}
 use Rattle.records.specs.Messages.{isDelivered}
-use Rattle.table.specs.declared.Table.{Table}
-use Rattle.table.specs.Holding.{IsMessage, mapOf, statusOf, lockOf, withStatus, withLock}
-use Rattle.table.specs.Steps.{addresseeOf}
-use Rattle.keeping.proofs.Places.{Seen, changed, kept}
-use Rattle.keeping.proofs.Locking.{never}
-use Rattle.keeping.proofs.OneAgent.{Good}
-use Rattle.keeping.proofs.OneMessage.{status-now}
-use Rattle.keeping.proofs.Deliveries.{forward-good, close-good}
+use Rattle.rules.specs.declared.State.{State}
+use Rattle.rules.specs.Holding.{IsMessage, mapOf, statusOf, lockOf, withStatus, withLock}
+use Rattle.rules.specs.Steps.{addresseeOf}
+use Rattle.preservation.proofs.Places.{Seen, changed, kept}
+use Rattle.preservation.proofs.Locking.{never}
+use Rattle.preservation.proofs.OneAgent.{Good}
+use Rattle.preservation.proofs.OneMessage.{status-now}
+use Rattle.preservation.proofs.Deliveries.{forward-good, close-good}
 use Rattle.order.specs.Marks.{Mark, nothing, closes, asksOf}
 use Rattle.order.specs.Operations.{Operation}
 use Rattle.order.proofs.MarkLaws.{more}
@@ -29,7 +29,7 @@ use Rattle.order.proofs.LinkSteps.{mail-on}
 use Rattle.order.proofs.BoardLaws.{board-same}
 use Rattle.order.proofs.Invariant.{Inv, tagOf, inv-quiet, new-plain, creations-same, move-same}
 
-module _ (start : Table) (ms : List Mark) (t : Table) (order : List Operation) (v : Inv start ms t order) where
+module _ (start : State) (ms : List Mark) (t : State) (order : List Operation) (v : Inv start ms t order) where
   -- a step that is not Done: the table is as it was
   pub refused-on : Inv start (more ms nothing) t order
   refused-on =

@@ -12,8 +12,8 @@ use native.Mathlib.Omega.{arith}
 use borrow.Author.Tests.{eq-eqb}
 use Rattle.records.specs.declared.AgentNo.{AgentNo}
 use Rattle.records.specs.declared.SiteNo.{SiteNo}
-use Rattle.table.specs.declared.Table.{Table}
-use Rattle.keeping.proofs.Locking.{never}
+use Rattle.rules.specs.declared.State.{State}
+use Rattle.preservation.proofs.Locking.{never}
 use Rattle.order.specs.Marks.{Mark, nothing, asks, asksOf, asksIn, At, movesBegun}
 
 -- a mark that says something stands at a place of the sequence
@@ -72,7 +72,7 @@ asks-none : (a : AgentNo) → asksIn a [] ≡ 0
 unfolding asksIn
 asks-none a = refl
 
-module _ (t : Table) (a : AgentNo) where
+module _ (t : State) (a : AgentNo) where
   -- fewer have begun at an earlier place
   pub begun-most : (ms : List Mark) (i : ℕ) → movesBegun t (take i ms) a ≤ movesBegun t ms a
   begun-most ms i =

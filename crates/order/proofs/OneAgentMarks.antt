@@ -17,14 +17,14 @@ use Rattle.records.specs.declared.Lock.the-variants.{Unheld, ForMove}
 use Rattle.records.specs.Numbers.{agentNo}
 use Rattle.records.specs.Agents.{withPhase, mappedHere}
 use Rattle.records.specs.Locks.{holding}
-use Rattle.table.specs.declared.Table.{Table}
-use Rattle.table.specs.Holding.{IsAgent, IsSite, agentAt, siteOf, phaseOf, lockOf, withAgent, withLock}
-use Rattle.table.specs.Steps.{toPhase}
-use Rattle.keeping.proofs.Places.{Seen, changed, kept, seen-agent}
-use Rattle.keeping.proofs.Locking.{never}
-use Rattle.keeping.proofs.OneAgent.{Good, agent-place}
-use Rattle.keeping.proofs.Moves.{ask-good, grant-good, book-good, settle-good}
-use Rattle.keeping.proofs.Enrol.{enrol-good}
+use Rattle.rules.specs.declared.State.{State}
+use Rattle.rules.specs.Holding.{IsAgent, IsSite, agentAt, siteOf, phaseOf, lockOf, withAgent, withLock}
+use Rattle.rules.specs.Steps.{toPhase}
+use Rattle.preservation.proofs.Places.{Seen, changed, kept, seen-agent}
+use Rattle.preservation.proofs.Locking.{never}
+use Rattle.preservation.proofs.OneAgent.{Good, agent-place}
+use Rattle.preservation.proofs.Moves.{ask-good, grant-good, book-good, settle-good}
+use Rattle.preservation.proofs.Enrol.{enrol-good}
 use Rattle.order.specs.Marks.{Mark, nothing, asks, leaves, settles, asksOf, inMove}
 use Rattle.order.specs.Operations.{Operation}
 use Rattle.order.proofs.MarkLaws.{more}
@@ -34,9 +34,9 @@ use Rattle.order.proofs.BoardLaws.{board-same}
 use Rattle.order.proofs.Invariant.{Inv, tagOf, inv-quiet, new-plain, creations-same, mail-same, move-same}
 
 module _
-    (first : Table)
+    (first : State)
     (ms : List Mark)
-    (t : Table)
+    (t : State)
     (order : List Operation)
     (v : Inv first ms t order)
     (a : AgentNo)

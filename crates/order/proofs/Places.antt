@@ -9,26 +9,26 @@ use Rattle.records.specs.declared.AgentNo.{AgentNo}
 use Rattle.records.specs.declared.SiteNo.{SiteNo}
 use Rattle.records.specs.declared.MailNo.{MailNo}
 use Rattle.records.specs.declared.Item.{Item}
-use Rattle.table.specs.declared.Table.{Table}
-use Rattle.table.specs.Holding.{IsMessage}
-use Rattle.keeping.proofs.Locking.{never}
+use Rattle.rules.specs.declared.State.{State}
+use Rattle.rules.specs.Holding.{IsMessage}
+use Rattle.preservation.proofs.Locking.{never}
 use Rattle.order.specs.Marks.{Mark, nothing, creates, asks, leaves, settles, takes, hands, closes, At, movesBegun}
 use Rattle.order.specs.Operations.{Operation, creation, move, message, Targets, Taken, BeginsAt, EffectAt, OverAt}
 use Rattle.order.proofs.MarkLaws.{at-below, more, at-keeps, at-old, at-snoc, take-old, take-last, begun-most}
 use Rattle.order.proofs.Links.{MailLinks, New}
 
 -- where an operation begins or has its effect is a place of the sequence
-pub begins-below : (first : Table) (ms : List Mark) (y : Operation) (i : ℕ) → BeginsAt first ms y i → i < length ms
+pub begins-below : (first : State) (ms : List Mark) (y : Operation) (i : ℕ) → BeginsAt first ms y i → i < length ms
 begins-below first ms (creation p c) i h = at-below ms i (creates p c) (λ e. never (cc)) h
 begins-below first ms (move a k u) i h = at-below ms i (asks a u) (λ e. never (cc)) (h .0)
 begins-below first ms (message b y) i h = at-below ms i (takes (h .0) b y) (λ e. never (cc)) (h .1)
 
-pub effect-below : (first : Table) (ms : List Mark) (y : Operation) (i : ℕ) → EffectAt first ms y i → i < length ms
+pub effect-below : (first : State) (ms : List Mark) (y : Operation) (i : ℕ) → EffectAt first ms y i → i < length ms
 effect-below first ms (creation p c) i h = at-below ms i (creates p c) (λ e. never (cc)) h
 effect-below first ms (move a k u) i h = at-below ms i (leaves a) (λ e. never (cc)) (h .1)
 effect-below first ms (message b y) i h = at-below ms i (hands (h .0)) (λ e. never (cc)) (h .2)
 
-module _ (first : Table) (ms : List Mark) (x : Mark) where
+module _ (first : State) (ms : List Mark) (x : Mark) where
   pub begun-old : (i : ℕ) (a : AgentNo) → i ≤ length ms → movesBegun first (take i (more ms x)) a ≡ movesBegun first (take i ms) a
   begun-old i a h = ap (λ (l : List Mark). movesBegun first l a) (take-old ms x i h)
 
@@ -88,7 +88,7 @@ module _ (first : Table) (ms : List Mark) (x : Mark) where
       told (inr w) = absurd (other (w .1))
 
   -- and one that was there is not taken anew
-  pub taken-there : (t : Table) → New t x → (m : MailNo) (b : AgentNo) (y : Item) → IsMessage t m → Taken first (more ms x) m b y → Taken first ms m b y
+  pub taken-there : (t : State) → New t x → (m : MailNo) (b : AgentNo) (y : Item) → IsMessage t m → Taken first (more ms x) m b y → Taken first ms m b y
   taken-there t new m b y here = taken-back m b y (λ e. new .take m b y e m here .0 refl)
 
   -- what had its effect has had it
@@ -104,7 +104,7 @@ module _ (first : Table) (ms : List Mark) (x : Mark) where
   begins-back (move a k u) i low h = counted-back i a (asks a u) k low h
   begins-back (message b y) i low h = (h .0, sym (at-keeps ms x i low) ∙ h .1)
 
-module _ (first : Table) (ms : List Mark) (x : Mark) (t : Table) (links : MailLinks first ms t) (new : New t x) where
+module _ (first : State) (ms : List Mark) (x : Mark) (t : State) (links : MailLinks first ms t) (new : New t x) where
   pub effect-back : (y : Operation) (i : ℕ) → i < length ms → EffectAt first (more ms x) y i → EffectAt first ms y i
   effect-back (creation p c) i low h = sym (at-keeps ms x i low) ∙ h
   effect-back (move a k u) i low h =

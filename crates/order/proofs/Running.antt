@@ -10,17 +10,17 @@ use Rattle.records.specs.declared.SiteNo.{SiteNo}
 use Rattle.records.specs.declared.MailNo.{MailNo}
 use Rattle.records.specs.declared.Item.{Item}
 use Rattle.records.specs.declared.Code.{Code}
-use Rattle.records.specs.declared.Code.the-variants.{Done, Repeat, NoSite, NoAgent, NoMessage, Busy, NotUp, OutOfTurn, LockHeld, NotEnrolled, AgentsFull, MessagesFull, Changed, Gap, BadCount, NoRoom, BadLine, NotOpen, AlreadyOpen, BadState}
 use Rattle.records.specs.Messages.{itemOf}
 use Rattle.records.specs.Codes.{codeNumber}
-use Rattle.table.specs.declared.Table.{Table}
-use Rattle.table.specs.declared.Answer.{Answer}
-use Rattle.table.specs.declared.Step.{Step}
-use Rattle.table.specs.Holding.{IsMessage, phaseOf, messageAt}
-use Rattle.table.specs.Steps.{addresseeOf, stepOf}
-use Rattle.keeping.proofs.Locking.{never}
-use Rattle.keeping.proofs.OneAgent.{Good}
-use Rattle.keeping.proofs.Outcomes.{Went, spawned, asked, sent, enrolled, greeted, granted, leapt, booked, settled, forwarded, handed, lost, closed, Outcome, stayed, went, step-outcome}
+use Rattle.records.proofs.CodeLaws.{not-done}
+use Rattle.rules.specs.declared.State.{State}
+use Rattle.rules.specs.declared.Reply.{Reply}
+use Rattle.rules.specs.declared.Step.{Step}
+use Rattle.rules.specs.Holding.{IsMessage, phaseOf, messageAt}
+use Rattle.rules.specs.Steps.{addresseeOf, stepOf}
+use Rattle.preservation.proofs.Locking.{never}
+use Rattle.preservation.proofs.OneAgent.{Good}
+use Rattle.preservation.proofs.Outcomes.{Went, spawned, asked, sent, enrolled, greeted, granted, leapt, booked, settled, forwarded, handed, lost, closed, Outcome, stayed, went, step-outcome}
 use Rattle.order.specs.Marks.{Mark, nothing, asks, leaves, takes, hands, markDone, markOf, marksOf, tableAfter, inMove, asksIn, movesBegun}
 use Rattle.order.specs.Operations.{Operation, creation, move, message, Targets, Taken, EffectAt}
 use Rattle.order.specs.Boards.{putAll}
@@ -35,10 +35,10 @@ use Rattle.order.proofs.SendMark.{send-on}
 use Rattle.order.proofs.HandMark.{hand-on}
 
 -- the order so far, whatever it is
-abbrev pub Reached : Table → List Mark → Table → Type 0
+abbrev pub Reached : State → List Mark → State → Type 0
 Reached start ms t = (order : List Operation) × Inv start ms t order
 
-went-on : (start : Table) (ms : List Mark) (t : Table) (s : Step) (n : ℕ) (t′ : Table) → Reached start ms t → Went t s n t′ → Reached start (more ms (markDone s n)) t′
+went-on : (start : State) (ms : List Mark) (t : State) (s : Step) (n : ℕ) (t′ : State) → Reached start ms t → Went t s n t′ → Reached start (more ms (markDone s n)) t′
 went-on start ms t s n t′ r (spawned a here free some) = (_, spawn-on start ms t (r .0) (r .1) a here free some)
 went-on start ms t s n t′ r (asked a u here site free) = (_, ask-on start ms t (r .0) (r .1) a here u site free)
 went-on start ms t s n t′ r (sent a k b v from to up next some) = (_, send-on start ms t (r .0) (r .1) a k b v from to up next some)
@@ -53,51 +53,29 @@ went-on start ms t s n t′ r (handed m u here turn met) = (_, hand-on start ms 
 went-on start ms t s n t′ r (lost m u here turn missed) = absurd (missed (r .1 .good .1 .out m here u turn))
 went-on start ms t s n t′ r (closed m here turn) = (_, close-on start ms t (r .0) (r .1) m here turn)
 
-not-done : (c : Code) → (c ≡ Done → ⊥) → eqb (codeNumber c) 0 ≡ false
-not-done Done n = absurd (n refl)
-not-done Repeat n = refl
-not-done NoSite n = refl
-not-done NoAgent n = refl
-not-done NoMessage n = refl
-not-done Busy n = refl
-not-done NotUp n = refl
-not-done OutOfTurn n = refl
-not-done LockHeld n = refl
-not-done NotEnrolled n = refl
-not-done AgentsFull n = refl
-not-done MessagesFull n = refl
-not-done Changed n = refl
-not-done Gap n = refl
-not-done BadCount n = refl
-not-done NoRoom n = refl
-not-done BadLine n = refl
-not-done NotOpen n = refl
-not-done AlreadyOpen n = refl
-not-done BadState n = refl
-
-step-on : (start : Table) (ms : List Mark) (t : Table) (s : Step) (r : Answer) → Reached start ms t → Outcome t s r → Reached start (more ms (markOf s r)) (r .table)
+step-on : (start : State) (ms : List Mark) (t : State) (s : Step) (r : Reply) → Reached start ms t → Outcome t s r → Reached start (more ms (markOf s r)) (r .state)
 step-on start ms t s r v (stayed same code number below) =
     subst
-    (λ (b : Bool). Reached start (more ms (cond b (markDone s (r .number)) nothing)) (r .table))
+    (λ (b : Bool). Reached start (more ms (cond b (markDone s (r .number)) nothing)) (r .state))
     (sym (not-done (r .code) code))
     (subst (Reached start (more ms nothing)) (sym same) (v .0, refused-on start ms t (v .0) (v .1)))
 step-on start ms t s r v (went code w) =
     subst
-    (λ (c : Code). Reached start (more ms (cond (eqb (codeNumber c) 0) (markDone s (r .number)) nothing)) (r .table))
+    (λ (c : Code). Reached start (more ms (cond (eqb (codeNumber c) 0) (markDone s (r .number)) nothing)) (r .state))
     (sym code)
-    (went-on start ms t s (r .number) (r .table) v w)
+    (went-on start ms t s (r .number) (r .state) v w)
 
-run-on : (start : Table) (ms : List Mark) (t : Table) (ss : List Step) → Reached start ms t → Reached start (ms ++ marksOf t ss) (tableAfter t ss)
+run-on : (start : State) (ms : List Mark) (t : State) (ss : List Step) → Reached start ms t → Reached start (ms ++ marksOf t ss) (tableAfter t ss)
 unfolding marksOf tableAfter
 run-on start ms t [] v = subst (λ (l : List Mark). Reached start l t) (sym (append-nil ms)) v
 run-on start ms t (s ∷ ss) v =
     subst
-    (λ (l : List Mark). Reached start l (tableAfter (stepOf t s .table) ss))
-    (append-assoc ms (markOf s (stepOf t s) ∷ []) (marksOf (stepOf t s .table) ss))
-    (run-on start (more ms (markOf s (stepOf t s))) (stepOf t s .table) ss (step-on start ms t s (stepOf t s) v (step-outcome t s)))
+    (λ (l : List Mark). Reached start l (tableAfter (stepOf t s .state) ss))
+    (append-assoc ms (markOf s (stepOf t s) ∷ []) (marksOf (stepOf t s .state) ss))
+    (run-on start (more ms (markOf s (stepOf t s))) (stepOf t s .state) ss (step-on start ms t s (stepOf t s) v (step-outcome t s)))
 
 -- before the first step nothing is marked, and the order is empty
-module _ (t : Table) (g : Good t) where
+module _ (t : State) (g : Good t) where
   one : (a : AgentNo) → inMove (phaseOf t a) ≡ true → movesBegun t [] a ≡ 1
   unfolding asksIn
   one a e = ap (λ (b : Bool). cond b 1 0 + 0) e

@@ -13,14 +13,14 @@ use Rattle.records.specs.declared.Item.{Item}
 use Rattle.records.specs.declared.Message.{Message}
 use Rattle.records.specs.Numbers.{mailNo}
 use Rattle.records.specs.Messages.{itemOf}
-use Rattle.table.specs.declared.Table.{Table}
-use Rattle.table.specs.Holding.{mostMessages, IsAgent, IsMessage, phaseOf, messageAt, nextMessage, withNewMessage}
-use Rattle.table.specs.Steps.{sentBy, newMessage}
-use Rattle.keeping.proofs.Places.{Seen, changed, kept, seen-message}
-use Rattle.keeping.proofs.Families.{ChildOf}
-use Rattle.keeping.proofs.Locking.{never}
-use Rattle.keeping.proofs.Send.{send-good}
-use Rattle.keeping.proofs.Letters.{number-below}
+use Rattle.rules.specs.declared.State.{State}
+use Rattle.rules.specs.Holding.{mostMessages, IsAgent, IsMessage, phaseOf, messageAt, nextMessage, withNewMessage}
+use Rattle.rules.specs.Steps.{sentBy, newMessage}
+use Rattle.preservation.proofs.Places.{Seen, changed, kept, seen-message}
+use Rattle.preservation.proofs.Families.{ChildOf}
+use Rattle.preservation.proofs.Locking.{never}
+use Rattle.preservation.proofs.Send.{send-good}
+use Rattle.preservation.proofs.Letters.{number-below}
 use Rattle.order.specs.Marks.{Mark, takes}
 use Rattle.order.specs.Operations.{Operation}
 use Rattle.order.proofs.MarkLaws.{more}
@@ -29,9 +29,9 @@ use Rattle.order.proofs.BoardLaws.{logged-there, board-same}
 use Rattle.order.proofs.Invariant.{Inv, inv-quiet, creations-same, move-same}
 
 module _
-    (start : Table)
+    (start : State)
     (ms : List Mark)
-    (t : Table)
+    (t : State)
     (order : List Operation)
     (v : Inv start ms t order)
     (a : AgentNo)
@@ -50,7 +50,7 @@ module _
     abbrev it : Message
     it = newMessage a n b w
 
-    abbrev after : Table
+    abbrev after : State
     after = withNewMessage t it
 
     abbrev mark : Mark

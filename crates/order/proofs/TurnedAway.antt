@@ -5,12 +5,12 @@ use native.Mathlib.Omega.{arith}
 use Rattle.records.specs.declared.Code.the-variants.{Done, Busy, NoSite}
 use Rattle.records.specs.Codes.{codeNumber, IsRefusal}
 use Rattle.records.specs.Numbers.{agentNo, siteNo}
-use Rattle.table.specs.declared.Table.{Table}
-use Rattle.table.specs.declared.Answer.{Answer}
-use Rattle.table.specs.declared.Step.{Step}
-use Rattle.table.specs.declared.Step.the-variants.{Spawn, Ask}
-use Rattle.table.specs.Answers.{done}
-use Rattle.table.specs.Steps.{opened, stepOf}
+use Rattle.rules.specs.declared.State.{State}
+use Rattle.rules.specs.declared.Reply.{Reply}
+use Rattle.rules.specs.declared.Step.{Step}
+use Rattle.rules.specs.declared.Step.the-variants.{Spawn, Ask}
+use Rattle.rules.specs.Answers.{done}
+use Rattle.rules.specs.Steps.{opened, stepOf}
 
 -- A contract that is an equation with a definition leaves one result: the scheme that every public function's promise falls under, for the
 -- result and for each lent buffer at exit.
@@ -18,14 +18,14 @@ pub no-other : {A : Type 0} (defined r q : A) → r ≡ defined → q ≡ define
 no-other defined r q e f = e ∙ sym f
 
 -- answers that meet the contract `r ≡ stepOf self step` of every method, on every call
-abbrev pub Meets : (Table → Step → Answer) → Type 0
-Meets f = (t : Table) (s : Step) → f t s ≡ stepOf t s
+abbrev pub Meets : (State → Step → Reply) → Type 0
+Meets f = (t : State) (s : Step) → f t s ≡ stepOf t s
 
-abbrev first : Table
+abbrev first : State
 first = opened 3
 
-abbrev second : Table
-second = stepOf first (Spawn (agentNo 0)) .table
+abbrev second : State
+second = stepOf first (Spawn (agentNo 0)) .state
 
 spawns : stepOf first (Spawn (agentNo 0)) .code ≡ Done
 unfolding stepOf
@@ -44,31 +44,31 @@ unfolding stepOf
 busy = refl
 
 -- it refuses always
-pub always-refuses : (f : Table → Step → Answer) → Meets f → ((t : Table) (s : Step) → IsRefusal (f t s .code)) → ⊥
+pub always-refuses : (f : State → Step → Reply) → Meets f → ((t : State) (s : Step) → IsRefusal (f t s .code)) → ⊥
 always-refuses f meets refuses =
     let zero : codeNumber (f first (Spawn (agentNo 0)) .code) ≡ 0 =
-    ap (λ (r : Answer). codeNumber (r .code)) (meets first (Spawn (agentNo 0))) ∙ ap codeNumber spawns in
+    ap (λ (r : Reply). codeNumber (r .code)) (meets first (Spawn (agentNo 0))) ∙ ap codeNumber spawns in
     omega (arith, refuses first (Spawn (agentNo 0)))
 
 -- it gives one answer always
-pub one-answer : (f : Table → Step → Answer) → Meets f → (r : Answer) → ((t : Table) (s : Step) → f t s ≡ r) → ⊥
+pub one-answer : (f : State → Step → Reply) → Meets f → (r : Reply) → ((t : State) (s : Step) → f t s ≡ r) → ⊥
 one-answer f meets r same =
     let spawned : codeNumber (r .code) ≡ 0 =
-    ap (λ (x : Answer). codeNumber (x .code)) (sym (same first (Spawn (agentNo 0))) ∙ meets first (Spawn (agentNo 0))) ∙ ap codeNumber spawns in
+    ap (λ (x : Reply). codeNumber (x .code)) (sym (same first (Spawn (agentNo 0))) ∙ meets first (Spawn (agentNo 0))) ∙ ap codeNumber spawns in
     let asked : codeNumber (r .code) ≡ 10 =
-    ap (λ (x : Answer). codeNumber (x .code)) (sym (same first (Ask (agentNo 0) (siteNo 3))) ∙ meets first (Ask (agentNo 0) (siteNo 3))) ∙ ap codeNumber no-such-site in
+    ap (λ (x : Reply). codeNumber (x .code)) (sym (same first (Ask (agentNo 0) (siteNo 3))) ∙ meets first (Ask (agentNo 0) (siteNo 3))) ∙ ap codeNumber no-such-site in
     omega arith
 
 -- it changes nothing
-pub changes-nothing : (f : Table → Step → Answer) → Meets f → ((t : Table) (s : Step) → f t s .table ≡ t) → ⊥
+pub changes-nothing : (f : State → Step → Reply) → Meets f → ((t : State) (s : Step) → f t s .state ≡ t) → ⊥
 changes-nothing f meets same =
     let one : first .agents ≡ second .agents =
-    ap (λ (t : Table). t .agents) (sym (same first (Spawn (agentNo 0))) ∙ ap (λ (r : Answer). r .table) (meets first (Spawn (agentNo 0)))) in
+    ap (λ (t : State). t .agents) (sym (same first (Spawn (agentNo 0))) ∙ ap (λ (r : Reply). r .state) (meets first (Spawn (agentNo 0)))) in
     omega (arith, one, grows)
 
 -- it works on a fresh table, and then only says Done
-pub works-once : (f : Table → Step → Answer) → Meets f → ((t : Table) (s : Step) → (t .agents ≡ 1 → ⊥) → f t s .code ≡ Done) → ⊥
+pub works-once : (f : State → Step → Reply) → Meets f → ((t : State) (s : Step) → (t .agents ≡ 1 → ⊥) → f t s .code ≡ Done) → ⊥
 works-once f meets says =
     let done : codeNumber (stepOf second (Spawn (agentNo 0)) .code) ≡ 0 =
-    ap codeNumber (ap (λ (r : Answer). r .code) (sym (meets second (Spawn (agentNo 0)))) ∙ says second (Spawn (agentNo 0)) (λ e. omega (arith, grows))) in
+    ap codeNumber (ap (λ (r : Reply). r .code) (sym (meets second (Spawn (agentNo 0)))) ∙ says second (Spawn (agentNo 0)) (λ e. omega (arith, grows))) in
     omega (arith, done, ap codeNumber busy)

@@ -8,8 +8,8 @@ use Rattle.records.specs.declared.AgentNo.{AgentNo}
 use Rattle.records.specs.declared.SiteNo.{SiteNo}
 use Rattle.records.specs.declared.Item.{Item}
 use Rattle.records.specs.Numbers.{sameAgent}
-use Rattle.table.specs.declared.Table.{Table}
-use Rattle.table.specs.Holding.{siteOf, inboxOf}
+use Rattle.rules.specs.declared.State.{State}
+use Rattle.rules.specs.Holding.{siteOf, inboxOf}
 use Rattle.order.specs.Operations.{Operation, creation, move, message}
 
 -- how many agents there are, where each stands, and what each was handed
@@ -51,5 +51,5 @@ FindsAll w [] = Unit {0}
 FindsAll w (x ∷ xs) = Finds w x × FindsAll (put w x) xs
 
 -- the board that a table stands for: the sites as they are, the inboxes from the log
-abbrev pub boardOf : Table → Board
+abbrev pub boardOf : State → Board
 boardOf t = record { count = t .agents; site = siteOf t; inbox = inboxOf t }

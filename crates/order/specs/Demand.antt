@@ -1,15 +1,15 @@
 -- What is shown of a sequence of steps ss, with any numbers and refused ones among them, that runs from a table t.
 use mathlib.Core.Path.{_≡_}
 use mathlib.Core.List.{List}
-use Rattle.table.specs.declared.Table.{Table}
-use Rattle.table.specs.declared.Step.{Step}
-use Rattle.table.specs.Steps.{ruleOf, stepOf}
+use Rattle.rules.specs.declared.State.{State}
+use Rattle.rules.specs.declared.Step.{Step}
+use Rattle.rules.specs.Steps.{ruleOf, stepOf}
 use Rattle.order.specs.Marks.{tableAfter}
 use Rattle.order.specs.Operations.{Operation}
 use Rattle.order.specs.Ordering.{OneOrder}
 use Rattle.order.specs.Settled.{MailSettled, MapSettled}
 
-pub record AllInOrder (t : Table) (ss : List Step) : Type 0 where
+pub record AllInOrder (t : State) (ss : List Step) : Type 0 where
   -- the order of the operations
   pub order : List Operation
   pub one : OneOrder t ss order

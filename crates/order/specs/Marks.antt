@@ -13,12 +13,12 @@ use Rattle.records.specs.declared.Phase.{Phase}
 use Rattle.records.specs.Numbers.{agentNo, mailNo, sameAgent}
 use Rattle.records.specs.Codes.{codeNumber}
 use Rattle.records.specs.Agents.{isAsking, isGranted, isLanded, isBooked}
-use Rattle.table.specs.declared.Table.{Table}
-use Rattle.table.specs.declared.Answer.{Answer}
-use Rattle.table.specs.declared.Step.{Step}
-use Rattle.table.specs.declared.Step.the-variants.{Spawn, Ask, Send, Enrol, Greet, Grant, Leap, Book, Settle, Forward, Hand, Close}
-use Rattle.table.specs.Holding.{phaseOf}
-use Rattle.table.specs.Steps.{stepOf}
+use Rattle.rules.specs.declared.State.{State}
+use Rattle.rules.specs.declared.Reply.{Reply}
+use Rattle.rules.specs.declared.Step.{Step}
+use Rattle.rules.specs.declared.Step.the-variants.{Spawn, Ask, Send, Enrol, Greet, Grant, Leap, Book, Settle, Forward, Hand, Close}
+use Rattle.rules.specs.Holding.{phaseOf}
+use Rattle.rules.specs.Steps.{stepOf}
 
 -- what a step is to an operation
 pub data Mark : Type 0 where
@@ -51,19 +51,19 @@ markDone (Forward m) k = nothing
 markDone (Hand m) k = hands m
 markDone (Close m) k = closes m
 
-abbrev pub markOf : Step → Answer → Mark
+abbrev pub markOf : Step → Reply → Mark
 markOf s r = cond (eqb (codeNumber (r .code)) 0) (markDone s (r .number)) nothing
 
 -- the marks of a sequence, and the table after it
-unfoldable pub marksOf : Table → List Step → List Mark
+unfoldable pub marksOf : State → List Step → List Mark
 unfolding stepOf
 marksOf t [] = []
-marksOf t (s ∷ ss) = markOf s (stepOf t s) ∷ marksOf (stepOf t s .table) ss
+marksOf t (s ∷ ss) = markOf s (stepOf t s) ∷ marksOf (stepOf t s .state) ss
 
-unfoldable pub tableAfter : Table → List Step → Table
+unfoldable pub tableAfter : State → List Step → State
 unfolding stepOf
 tableAfter t [] = t
-tableAfter t (s ∷ ss) = tableAfter (stepOf t s .table) ss
+tableAfter t (s ∷ ss) = tableAfter (stepOf t s .state) ss
 
 -- the mark x stands at place i
 abbrev pub At : List Mark → ℕ → Mark → Type 0
@@ -88,5 +88,5 @@ unfoldable pub asksIn : AgentNo → List Mark → ℕ
 asksIn a [] = 0
 asksIn a (x ∷ xs) = cond (asksOf a x) 1 0 + asksIn a xs
 
-abbrev pub movesBegun : Table → List Mark → AgentNo → ℕ
+abbrev pub movesBegun : State → List Mark → AgentNo → ℕ
 movesBegun t ms a = cond (inMove (phaseOf t a)) 1 0 + asksIn a ms

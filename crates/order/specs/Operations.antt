@@ -11,9 +11,9 @@ use Rattle.records.specs.declared.MailNo.{MailNo}
 use Rattle.records.specs.declared.Item.{Item}
 use Rattle.records.specs.declared.Phase.the-variants.{Asking, Granted}
 use Rattle.records.specs.Messages.{itemOf}
-use Rattle.table.specs.declared.Table.{Table}
-use Rattle.table.specs.Holding.{IsMessage, phaseOf, messageAt}
-use Rattle.table.specs.Steps.{addresseeOf}
+use Rattle.rules.specs.declared.State.{State}
+use Rattle.rules.specs.Holding.{IsMessage, phaseOf, messageAt}
+use Rattle.rules.specs.Steps.{addresseeOf}
 use Rattle.order.specs.Marks.{Mark, creates, greets, asks, leaves, settles, takes, hands, closes, At, movesBegun}
 
 pub data Operation : Type 0 where
@@ -36,31 +36,31 @@ nameOf (move a k u) = turn a k
 nameOf (message b x) = letter (x .sender) (x .number)
 
 -- at place i the agent asks for its k-th move, to u
-abbrev pub AsksAt : Table → List Mark → AgentNo → ℕ → SiteNo → ℕ → Type 0
+abbrev pub AsksAt : State → List Mark → AgentNo → ℕ → SiteNo → ℕ → Type 0
 AsksAt t ms a k u i = At ms i (asks a u) × (movesBegun t (take i ms) a ≡ k)
 
 -- the agent's k-th move is to u: the first table finds it asking or granted, or it asks at some place
-abbrev pub Targets : Table → List Mark → AgentNo → ℕ → SiteNo → Type 0
+abbrev pub Targets : State → List Mark → AgentNo → ℕ → SiteNo → Type 0
 Targets t ms a k u =
     ((k ≡ 0) × ((phaseOf t a ≡ Asking u) ⊎ (phaseOf t a ≡ Granted u))) ⊎ ((i : ℕ) × AsksAt t ms a k u i)
 
 -- the message that is m on the table goes to b and is read as x: the first table has it, or it is taken at some place
-abbrev pub Taken : Table → List Mark → MailNo → AgentNo → Item → Type 0
+abbrev pub Taken : State → List Mark → MailNo → AgentNo → Item → Type 0
 Taken t ms m b x =
     (IsMessage t m × (addresseeOf t m ≡ b) × (itemOf (messageAt t m) ≡ x)) ⊎ ((i : ℕ) × At ms i (takes m b x))
 
-abbrev pub BeginsAt : Table → List Mark → Operation → ℕ → Type 0
+abbrev pub BeginsAt : State → List Mark → Operation → ℕ → Type 0
 BeginsAt t ms (creation p c) i = At ms i (creates p c)
 BeginsAt t ms (move a k u) i = AsksAt t ms a k u i
 BeginsAt t ms (message b x) i = (m : MailNo) × At ms i (takes m b x)
 
 -- What an agent leaves for or settles from is the last move that it began.
-abbrev pub EffectAt : Table → List Mark → Operation → ℕ → Type 0
+abbrev pub EffectAt : State → List Mark → Operation → ℕ → Type 0
 EffectAt t ms (creation p c) i = At ms i (creates p c)
 EffectAt t ms (move a k u) i = Targets t ms a k u × At ms i (leaves a) × (movesBegun t (take i ms) a ≡ suc k)
 EffectAt t ms (message b x) i = (m : MailNo) × Taken t ms m b x × At ms i (hands m)
 
-abbrev pub OverAt : Table → List Mark → Operation → ℕ → Type 0
+abbrev pub OverAt : State → List Mark → Operation → ℕ → Type 0
 OverAt t ms (creation p c) i = At ms i (greets c)
 OverAt t ms (move a k u) i = At ms i (settles a) × (movesBegun t (take i ms) a ≡ suc k)
 OverAt t ms (message b x) i = (m : MailNo) × Taken t ms m b x × At ms i (closes m)

@@ -4,15 +4,15 @@ use mathlib.Core.Path.{_≡_}
 use mathlib.Core.Logic.{_↔_}
 use mathlib.Core.List.{List, map}
 use Rattle.records.specs.declared.AgentNo.{AgentNo}
-use Rattle.table.specs.declared.Table.{Table}
-use Rattle.table.specs.declared.Step.{Step}
-use Rattle.table.specs.Holding.{siteOf, inboxOf}
+use Rattle.rules.specs.declared.State.{State}
+use Rattle.rules.specs.declared.Step.{Step}
+use Rattle.rules.specs.Holding.{siteOf, inboxOf}
 use Rattle.order.specs.Lists.{In, Distinct, StandsBefore}
 use Rattle.order.specs.Marks.{marksOf, tableAfter}
 use Rattle.order.specs.Operations.{Operation, nameOf, BeginsAt, EffectAt, OverAt}
 use Rattle.order.specs.Boards.{boardOf, putAll, FindsAll}
 
-pub record OneOrder (t : Table) (ss : List Step) (order : List Operation) : Type 0 where
+pub record OneOrder (t : State) (ss : List Step) (order : List Operation) : Type 0 where
   -- the creations begun, the moves that have left and the messages handed over, and nothing else
   pub exactly : (x : Operation) → In x order ↔ ((i : ℕ) × EffectAt t (marksOf t ss) x i)
   -- each once

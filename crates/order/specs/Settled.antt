@@ -14,11 +14,11 @@ use Rattle.records.specs.declared.Mapped.the-variants.{At}
 use Rattle.records.specs.declared.Status.the-variants.{Queued, Out}
 use Rattle.records.specs.Numbers.{sameAgent}
 use Rattle.records.specs.Messages.{itemOf}
-use Rattle.table.specs.declared.Table.{Table}
-use Rattle.table.specs.declared.Step.{Step}
-use Rattle.table.specs.Holding.{IsAgent, IsMessage, siteOf, phaseOf, mapOf, messageAt, statusOf, inboxOf}
-use Rattle.table.specs.Soundness.{Delivered}
-use Rattle.table.specs.Steps.{addresseeOf}
+use Rattle.rules.specs.declared.State.{State}
+use Rattle.rules.specs.declared.Step.{Step}
+use Rattle.rules.specs.Holding.{IsAgent, IsMessage, siteOf, phaseOf, mapOf, messageAt, statusOf, inboxOf}
+use Rattle.rules.specs.Soundness.{Delivered}
+use Rattle.rules.specs.Steps.{addresseeOf}
 use Rattle.order.specs.Lists.{In}
 use Rattle.order.specs.Marks.{marksOf, tableAfter}
 use Rattle.order.specs.Operations.{Taken}
@@ -29,22 +29,22 @@ timesIn x [] = 0
 timesIn x (y ∷ ys) = cond (sameAgent (y .sender) (x .sender) && eqb (y .number) (x .number)) 1 0 + timesIn x ys
 
 -- queued or out
-abbrev pub Waiting : Table → MailNo → Type 0
+abbrev pub Waiting : State → MailNo → Type 0
 Waiting t m = (statusOf t m ≡ Queued) ⊎ ((s : SiteNo) × (statusOf t m ≡ Out s))
 
 -- m is waiting and stands in no inbox
-pub record NotYet (t : Table) (m : MailNo) : Type 0 where
+pub record NotYet (t : State) (m : MailNo) : Type 0 where
   pub waiting : Waiting t m
   pub nowhere : (a : AgentNo) → timesIn (itemOf (messageAt t m)) (inboxOf t a) ≡ 0
 
 -- m stands once in its addressee's inbox, and in no other
-pub record InPlace (t : Table) (m : MailNo) : Type 0 where
+pub record InPlace (t : State) (m : MailNo) : Type 0 where
   pub delivered : Delivered t m
   pub there : In (itemOf (messageAt t m)) (inboxOf t (addresseeOf t m))
   pub once : timesIn (itemOf (messageAt t m)) (inboxOf t (addresseeOf t m)) ≡ 1
   pub nowhereElse : (a : AgentNo) → (a ≡ addresseeOf t m → ⊥) → timesIn (itemOf (messageAt t m)) (inboxOf t a) ≡ 0
 
-pub record MailSettled (t : Table) (ss : List Step) : Type 0 where
+pub record MailSettled (t : State) (ss : List Step) : Type 0 where
   -- the messages of the table are those taken, as they were taken
   pub taken :
       (m : MailNo) (b : AgentNo) (x : Item)
@@ -56,7 +56,7 @@ pub record MailSettled (t : Table) (ss : List Step) : Type 0 where
   pub noOther : (a : AgentNo) (x : Item) → In x (inboxOf (tableAfter t ss) a) → (m : MailNo) × Taken t (marksOf t ss) m a x
 
 -- the map names the site of every agent that is enrolled, save one that has landed and isn't yet booked
-pub record MapSettled (t : Table) : Type 0 where
+pub record MapSettled (t : State) : Type 0 where
   pub right :
       (a : AgentNo)
       → IsAgent t a

@@ -1,3 +1,5 @@
 pub mod FlagLaws
 pub mod PlaceLaws
 pub mod ReaderLaws
+pub mod LoopLaws
+pub mod CodeLaws

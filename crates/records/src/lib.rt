@@ -4,6 +4,7 @@
 pub mod agents;
 pub mod codes;
 pub mod flags;
+pub mod limits;
 pub mod locks;
 pub mod messages;
 

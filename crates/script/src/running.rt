@@ -2,22 +2,20 @@
 ghost use Prim.Native.Nat.{_≤_};
 ghost use mathlib.Core.Path.{_≡_};
 ghost use lib.ListN.{length};
-ghost use Rattle.table.specs.Holding.{noTable};
-ghost use Rattle.written.specs.Placing.{PutWithin};
-ghost use Rattle.script.specs.Program.{noDesk};
-ghost use Rattle.script.specs.Lines.{linesOf};
-ghost use Rattle.script.specs.Running.{Came, answerText, from, atFront, tableBehind, runEnd, runLines, runOf};
-use crate::Desk;
-use crate::finding::first_line;
-use crate::finding::line_taken;
-use crate::reading::read_line;
+ghost use Rattle.text.specs.Placing.{PutWithin};
+ghost use Rattle.program.specs.Program.{noDesk, answerLine};
+ghost use Rattle.grammar.specs.Lines.{linesOf};
+ghost use Rattle.program.specs.Running.{Came, from, atFront, tableBehind, runEnd, runLines, runOf};
 use crate::taking::take;
+use lines::read_line;
+use program::Desk;
 use records::Code;
 use records::codes::code_number;
+use scanning::finding::first_line;
+use scanning::finding::line_taken;
 use table::Table;
 use written::answers::answer_line;
 use written::place::put_text;
-use written::write;
 
 const MOST_INPUT: usize = 65536;
 
@@ -34,7 +32,7 @@ fn no_desk() -> Desk
 
 // The line that answers a code and a number, from a place on.
 fn put_answer(output: &mut [u8], at: usize, k: u32, code: Code, number: u32) -> usize
-    ensures { λ r. ⌜ PutWithin (answerText k code number) (now (output .entry)) (now (output .exit)) at r ⌝ }
+    ensures { λ r. ⌜ PutWithin (answerLine k code number) (now (output .entry)) (now (output .exit)) at r ⌝ }
 {
     let shown = code_number(code);
     let mut room = [0u8; 43];
@@ -44,12 +42,12 @@ fn put_answer(output: &mut [u8], at: usize, k: u32, code: Code, number: u32) -> 
 
 // The written table from a place on.
 fn put_table(output: &mut [u8], at: usize, table: Table) -> usize
-    ensures { λ r. ⌜ Came (tableBehind (from at (now (output .entry))) table) r (now (output .exit)) ⌝ }
+    ensures { λ r. ⌜ Came (tableBehind (from at (now (output .entry))) (table .state)) r (now (output .exit)) ⌝ }
 {
     if output.len() < at {
         return at;
     }
-    let answer = write(table, &mut output[at..]);
+    let answer = table.write(&mut output[at..]);
     at + answer.length
 }
 

@@ -1,15 +1,15 @@
 // One line against what the script has come to.
 ghost use mathlib.Core.Path.{_≡_};
-ghost use Rattle.table.specs.Steps.{openOf, stepOf};
-ghost use Rattle.script.specs.Program.{takeLine, turnedAway, openedBy};
-ghost use Rattle.script.specs.Taking.{takeOpening};
-use crate::Desk;
-use crate::Line;
-use crate::Turn;
+ghost use Rattle.table.specs.Face.{openTable, stepTable};
+ghost use Rattle.program.specs.Program.{takeLine, turnedAway, openedBy};
+ghost use Rattle.program.specs.Taking.{takeOpening};
+use grammar::Line;
+use program::Desk;
+use program::Turn;
 use records::Code;
 use records::codes::code_number;
+use rules::Step;
 use table::Answer;
-use table::Step;
 use table::Table;
 
 // A line that is refused before it comes to the table.
@@ -25,7 +25,7 @@ fn turned_away(desk: Desk, code: Code) -> Turn
 
 // An opening, which opens the script where it is Done.
 fn opening(sites: u32) -> Turn
-    ensures { λ r. ⌜ r ≡ openedBy (openOf sites) ⌝ }
+    ensures { λ r. ⌜ r ≡ openedBy (openTable sites) ⌝ }
 {
     let answer = Table::open(sites);
     let code = answer.code;
@@ -56,7 +56,7 @@ fn take_opening(desk: Desk, line: Line) -> Turn
 
 // Each step by its method.
 fn step_on(table: Table, step: Step) -> Answer
-    ensures { λ r. ⌜ r ≡ stepOf table step ⌝ }
+    ensures { λ r. ⌜ r ≡ stepTable table step ⌝ }
 {
     match step {
         Step::Spawn(a) => table.spawn(a),

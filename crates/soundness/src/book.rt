@@ -4,8 +4,8 @@ ghost use mathlib.Core.Path.{_≡_};
 ghost use mathlib.Core.Bool.{_&&_};
 ghost use lib.ListN.{getD};
 ghost use Rattle.records.specs.Numbers.{agentNo};
-ghost use Rattle.soundness.specs.Tests.{delivered, statusRoom, numbersFine, logFine, bookFine};
-use crate::places::mail_place;
+ghost use Rattle.rules.specs.Tests.{delivered, statusRoom, numbersFine, logFine, bookFine};
+use checks::places::mail_place;
 use records::AgentNo;
 use records::MailNo;
 use records::Stand;
@@ -13,17 +13,19 @@ use records::flags::both;
 use records::flags::either;
 use records::flags::opposite;
 use records::flags::same_flag;
+use records::limits::AGENT_ROOM;
+use records::limits::MESSAGE_ROOM;
 use records::messages::CLOSED;
 use records::messages::HANDED;
 use records::messages::QUEUED;
 use records::messages::status_kind;
 
 // Each sender's numbers run 1, 2, 3 .. in the order of taking, and the room past them is empty.
-fn numbers_run(messages: u32, sender: [AgentNo; 512], number: [u32; 512]) -> bool
+fn numbers_run(messages: u32, sender: [AgentNo; MESSAGE_ROOM], number: [u32; MESSAGE_ROOM]) -> bool
     requires { ⌜ (messages ≤ 512) × ((i : ℕ) → i < messages → getD sender i (agentNo 0) .0 < 64) ⌝ }
     ensures { λ r. ⌜ r ≡ numbersFine messages sender number ⌝ }
 {
-    let mut counts = [0u32; 64];
+    let mut counts = [0u32; AGENT_ROOM];
     let mut fine = true;
     let mut i: u32 = 0;
     while i < messages {
@@ -38,7 +40,7 @@ fn numbers_run(messages: u32, sender: [AgentNo; 512], number: [u32; 512]) -> boo
     }
     let mut empty = true;
     let mut j = messages as usize;
-    while j < 512 {
+    while j < MESSAGE_ROOM {
         let past = number[j];
         empty = both(empty, past == 0);
         j += 1;
@@ -47,7 +49,7 @@ fn numbers_run(messages: u32, sender: [AgentNo; 512], number: [u32; 512]) -> boo
 }
 
 // The marked messages are the handed and the closed ones, and the room past the statuses is empty.
-fn marked_right(messages: u32, status: [Stand; 512], seen: [bool; 512]) -> bool
+fn marked_right(messages: u32, status: [Stand; MESSAGE_ROOM], seen: [bool; MESSAGE_ROOM]) -> bool
     requires { ⌜ messages ≤ 512 ⌝ }
     ensures { λ r. ⌜ r ≡ (delivered messages status seen && statusRoom messages status) ⌝ }
 {
@@ -64,7 +66,7 @@ fn marked_right(messages: u32, status: [Stand; 512], seen: [bool; 512]) -> bool
     }
     let mut empty = true;
     let mut j = messages as usize;
-    while j < 512 {
+    while j < MESSAGE_ROOM {
         let past = status[j];
         let s = past.status;
         let kind = status_kind(s);
@@ -75,11 +77,16 @@ fn marked_right(messages: u32, status: [Stand; 512], seen: [bool; 512]) -> bool
 }
 
 // The log holds each handed or closed message once, and nothing more; the room past it and past the statuses is empty.
-fn log_runs(messages: u32, handed: u32, status: [Stand; 512], log: [MailNo; 512]) -> bool
+fn log_runs(
+    messages: u32,
+    handed: u32,
+    status: [Stand; MESSAGE_ROOM],
+    log: [MailNo; MESSAGE_ROOM],
+) -> bool
     requires { ⌜ (messages ≤ 512) × (handed ≤ 512) ⌝ }
     ensures { λ r. ⌜ r ≡ logFine messages handed status log ⌝ }
 {
-    let mut seen = [false; 512];
+    let mut seen = [false; MESSAGE_ROOM];
     let mut fine = true;
     let mut i: u32 = 0;
     while i < handed {
@@ -93,7 +100,7 @@ fn log_runs(messages: u32, handed: u32, status: [Stand; 512], log: [MailNo; 512]
     }
     let mut empty = true;
     let mut j = handed as usize;
-    while j < 512 {
+    while j < MESSAGE_ROOM {
         let past = log[j];
         empty = both(empty, past.0 == 0);
         j += 1;
@@ -105,10 +112,10 @@ fn log_runs(messages: u32, handed: u32, status: [Stand; 512], log: [MailNo; 512]
 pub(crate) fn book_fine(
     messages: u32,
     handed: u32,
-    sender: [AgentNo; 512],
-    number: [u32; 512],
-    status: [Stand; 512],
-    log: [MailNo; 512],
+    sender: [AgentNo; MESSAGE_ROOM],
+    number: [u32; MESSAGE_ROOM],
+    status: [Stand; MESSAGE_ROOM],
+    log: [MailNo; MESSAGE_ROOM],
 ) -> bool
     requires { ⌜ (messages ≤ 512) × ((handed ≤ 512) × ((i : ℕ) → i < messages → getD sender i (agentNo 0) .0 < 64)) ⌝ }
     ensures { λ r. ⌜ r ≡ bookFine messages handed sender number status log ⌝ }

@@ -3,14 +3,15 @@
 mod agents;
 mod book;
 mod messages;
-mod places;
 mod rooms;
 
 ghost use mathlib.Core.Path.{_≡_};
 ghost use Prim.Native.Nat.{_≤_};
-ghost use Rattle.soundness.specs.Tests.{countsFine, lockThere, eachFine, partsSound};
+ghost use Rattle.rules.specs.Tests.{eachFine, partsSound};
 use agents::agents_fine;
 use book::book_fine;
+use checks::counts_fine;
+use checks::lock_there;
 use messages::messages_fine;
 use records::Agent;
 use records::AgentNo;
@@ -18,26 +19,9 @@ use records::Lock;
 use records::MailNo;
 use records::Stand;
 use records::flags::both;
+use records::limits::AGENT_ROOM;
+use records::limits::MESSAGE_ROOM;
 use rooms::number_room;
-
-fn counts_fine(sites: u32, agents: u32, messages: u32, handed: u32) -> bool
-    ensures { λ r. ⌜ r ≡ countsFine sites agents messages handed ⌝ }
-{
-    let taken = both(messages <= 512, handed <= 512);
-    let made = both(1 <= agents, both(agents <= 64, taken));
-    both(1 <= sites, both(sites <= 16, made))
-}
-
-// The lock names only what is there.
-fn lock_there(agents: u32, messages: u32, lock: Lock) -> bool
-    ensures { λ r. ⌜ r ≡ lockThere agents messages lock ⌝ }
-{
-    match lock {
-        Lock::Unheld => true,
-        Lock::ForMove(a) => a.0 < agents,
-        Lock::ForMail(m) => m.0 < messages,
-    }
-}
 
 // Each agent, the lock and each message, with the room past agents, senders and addressees.
 fn each_fine(
@@ -45,10 +29,10 @@ fn each_fine(
     agents: u32,
     messages: u32,
     lock: Lock,
-    agent: [Agent; 64],
-    sender: [AgentNo; 512],
-    addressee: [AgentNo; 512],
-    status: [Stand; 512],
+    agent: [Agent; AGENT_ROOM],
+    sender: [AgentNo; MESSAGE_ROOM],
+    addressee: [AgentNo; MESSAGE_ROOM],
+    status: [Stand; MESSAGE_ROOM],
 ) -> bool
     requires { ⌜ (agents ≤ 64) × (messages ≤ 512) ⌝ }
     ensures { λ r. ⌜ r ≡ eachFine sites agents messages lock agent sender addressee status ⌝ }
@@ -67,13 +51,13 @@ pub fn sound_parts(
     messages: u32,
     handed: u32,
     lock: Lock,
-    agent: [Agent; 64],
-    sender: [AgentNo; 512],
-    number: [u32; 512],
-    addressee: [AgentNo; 512],
-    value: [u32; 512],
-    status: [Stand; 512],
-    log: [MailNo; 512],
+    agent: [Agent; AGENT_ROOM],
+    sender: [AgentNo; MESSAGE_ROOM],
+    number: [u32; MESSAGE_ROOM],
+    addressee: [AgentNo; MESSAGE_ROOM],
+    value: [u32; MESSAGE_ROOM],
+    status: [Stand; MESSAGE_ROOM],
+    log: [MailNo; MESSAGE_ROOM],
 ) -> bool
     ensures { λ r. ⌜ r ≡ partsSound sites agents messages handed lock agent sender number addressee value status log ⌝ }
 {

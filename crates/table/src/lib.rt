@@ -1,49 +1,24 @@
-// The forwarding server's table, and what a step answers.
+// The table as a host has it: the state that the rules speak of, behind a name of its own, with every step as a method.
 ghost use mathlib.Core.Path.{_≡_};
-ghost use Rattle.table.specs.Answers.{done, refuse, repeated};
-ghost use Rattle.table.specs.Holding.{noTable};
-ghost use Rattle.table.specs.Steps.{openOf};
-ghost use Rattle.table.specs.Testing.{soundTest};
-
-mod creations;
-mod deliveries;
-mod moves;
-mod places;
-mod readers;
-mod sending;
-mod sent;
-
-use records::Agent;
+ghost use Rattle.rules.specs.Readers.{readAgent, readMessage, readInbox};
+ghost use Rattle.rules.specs.SoundTest.{soundTest};
+ghost use Rattle.table.specs.Face.{noTable, answerOf, openTable, stepTable};
+ghost use Rattle.text.specs.Writing.{writeOf};
 use records::AgentNo;
 use records::Code;
-use records::Held;
-use records::Item;
-use records::Lock;
 use records::MailNo;
-use records::Mapped;
-use records::Message;
-use records::Phase;
 use records::SiteNo;
-use records::Stand;
-use records::Status;
-use soundness::sound_parts;
+use records::limits;
+use rules::AgentRead;
+use rules::ItemRead;
+use rules::MessageRead;
+use rules::Reply;
+use rules::State;
+use rules::Step;
+use text::Written;
 
-// The counts come first; past them each array holds the empty filling. A message's five fields stand at its number in five arrays.
 pub struct Table {
-    pub sites: u32,
-    pub agents: u32,
-    pub messages: u32,
-    // the log's length
-    pub handed: u32,
-    pub held: Held,
-    pub agent: [Agent; 64],
-    pub sender: [AgentNo; 512],
-    pub number: [u32; 512],
-    pub addressee: [AgentNo; 512],
-    pub value: [u32; 512],
-    pub status: [Stand; 512],
-    // message numbers in the order of handing
-    pub log: [MailNo; 512],
+    pub state: State,
 }
 
 // What every step hands back: the table as it now stands, a code, and a number that is 0 where the rules name none.
@@ -53,166 +28,175 @@ pub struct Answer {
     pub number: u32,
 }
 
-// What a reader finds under a number.
-pub enum AgentRead {
-    NoSuch,
-    There(Agent),
-}
-
-pub enum MessageRead {
-    NoSuch,
-    There(Message),
-}
-
-pub enum ItemRead {
-    NoSuch,
-    There(Item),
-}
-
-// The twelve steps.
-pub enum Step {
-    Spawn(AgentNo),
-    Ask(AgentNo, SiteNo),
-    // sender, sender's number, addressee, value
-    Send(AgentNo, u32, AgentNo, u32),
-    Enrol(AgentNo),
-    Greet(AgentNo),
-    Grant(AgentNo),
-    Leap(AgentNo),
-    Book(AgentNo),
-    Settle(AgentNo),
-    Forward(MailNo),
-    Hand(MailNo),
-    Close(MailNo),
+// Hands back what the rules reply.
+fn answer_of(r: Reply) -> Answer
+    ensures { λ q. ⌜ q ≡ answerOf r ⌝ }
+{
+    let state = r.state;
+    let code = r.code;
+    Answer {
+        table: Table { state: state },
+        code: code,
+        number: r.number,
+    }
 }
 
 impl Table {
-    pub const MOST_SITES: u32 = 16;
+    pub const MOST_SITES: u32 = limits::MOST_SITES;
 
-    pub const MOST_AGENTS: u32 = 64;
+    pub const MOST_AGENTS: u32 = limits::MOST_AGENTS;
 
-    pub const MOST_MESSAGES: u32 = 512;
+    pub const MOST_MESSAGES: u32 = limits::MOST_MESSAGES;
 
-    // The table that stands where an answer has none: every count 0, the lock free, all room empty.
+    // Gives the table that stands where an answer has none: every count 0, the lock free, all room empty.
     pub fn none() -> Table
         ensures { λ r. ⌜ r ≡ noTable ⌝ }
     {
-        Table {
-            sites: 0,
-            agents: 0,
-            messages: 0,
-            handed: 0,
-            held: Held { lock: Lock::Unheld },
-            agent: [Agent {
-                site: SiteNo(0),
-                phase: Phase::Free,
-                map: Mapped::Nowhere,
-            }; 64],
-            sender: [AgentNo(0); 512],
-            number: [0; 512],
-            addressee: [AgentNo(0); 512],
-            value: [0; 512],
-            status: [Stand {
-                status: Status::Queued,
-            }; 512],
-            log: [MailNo(0); 512],
-        }
+        let state = parts::none();
+        Table { state: state }
     }
 
-    // A table of so many sites with agent 0 free at site 0, mapped there; refused where the count is 0 or above 16.
+    // Opens a table of so many sites, with agent 0 free at site 0 and mapped there; refused where the count is 0 or above 16.
     pub fn open(sites: u32) -> Answer
-        ensures { λ r. ⌜ r ≡ openOf sites ⌝ }
+        ensures { λ r. ⌜ r ≡ openTable sites ⌝ }
     {
-        let mut table = Table::none();
-        if sites == 0 {
-            return Answer {
-                table: table,
-                code: Code::BadCount,
-                number: 0,
-            };
-        }
-        if Table::MOST_SITES < sites {
-            return Answer {
-                table: table,
-                code: Code::BadCount,
-                number: 0,
-            };
-        }
-        let mut agent = table.agent;
-        agent[0] = Agent {
-            site: SiteNo(0),
-            phase: Phase::Free,
-            map: Mapped::At(SiteNo(0)),
-        };
-        table.sites = sites;
-        table.agents = 1;
-        table.agent = agent;
-        Answer {
-            table: table,
-            code: Code::Done,
-            number: 0,
-        }
+        answer_of(parts::opening(sites))
     }
 
-    // Whether the table is sound. The test takes the numbers and the arrays apart, so that no whole table is handed on.
+    // Tells whether the table is sound.
     pub fn is_sound(self) -> bool
-        ensures { λ r. ⌜ r ≡ soundTest self ⌝ }
+        ensures { λ r. ⌜ r ≡ soundTest (self .state) ⌝ }
     {
-        let held = self.held;
-        let lock = held.lock;
-        let agent = self.agent;
-        let sender = self.sender;
-        let number = self.number;
-        let addressee = self.addressee;
-        let value = self.value;
-        let status = self.status;
-        let log = self.log;
-        sound_parts(
-            self.sites,
-            self.agents,
-            self.messages,
-            self.handed,
-            lock,
-            agent,
-            sender,
-            number,
-            addressee,
-            value,
-            status,
-            log,
-        )
+        let state = self.state;
+        parts::is_sound(state)
     }
 
-    // Done, with the table as it now stands and the number that the rule names.
-    fn done(self, number: u32) -> Answer
-        ensures { λ r. ⌜ r ≡ done self number ⌝ }
+    // A new agent at the site of a, which is then spawning. The number is the child's.
+    pub fn spawn(mut self, a: AgentNo) -> Answer
+        ensures { λ r. ⌜ r ≡ stepTable self (Step.Spawn a) ⌝ }
     {
-        Answer {
-            table: self,
-            code: Code::Done,
-            number: number,
-        }
+        let state = self.state;
+        answer_of(creations::spawn(state, a))
     }
 
-    // A refusal hands the table back as it came.
-    fn refused(self, code: Code) -> Answer
-        ensures { λ r. ⌜ r ≡ refuse self code ⌝ }
+    // A free agent a asks to move to u.
+    pub fn ask(mut self, a: AgentNo, u: SiteNo) -> Answer
+        ensures { λ r. ⌜ r ≡ stepTable self (Step.Ask a u) ⌝ }
     {
-        Answer {
-            table: self,
-            code: code,
-            number: 0,
-        }
+        let state = self.state;
+        answer_of(moves::ask(state, a, u))
     }
 
-    // A repeat names the message that was taken, and changes nothing.
-    fn repeated(self, m: MailNo) -> Answer
-        ensures { λ r. ⌜ r ≡ repeated self m ⌝ }
+    // Takes the message that a numbers n, to b with the value v. The number is the message's.
+    pub fn send(mut self, a: AgentNo, n: u32, b: AgentNo, v: u32) -> Answer
+        ensures { λ r. ⌜ r ≡ stepTable self (Step.Send a n b v) ⌝ }
     {
-        Answer {
-            table: self,
-            code: Code::Repeat,
-            number: m.0,
-        }
+        let state = self.state;
+        answer_of(sending::send(state, a, n, b, v))
+    }
+
+    // The server learns of a born agent b.
+    pub fn enrol(mut self, b: AgentNo) -> Answer
+        ensures { λ r. ⌜ r ≡ stepTable self (Step.Enrol b) ⌝ }
+    {
+        let state = self.state;
+        answer_of(creations::enrol(state, b))
+    }
+
+    // An enrolled agent b and its parent become free.
+    pub fn greet(mut self, b: AgentNo) -> Answer
+        ensures { λ r. ⌜ r ≡ stepTable self (Step.Greet b) ⌝ }
+    {
+        let state = self.state;
+        answer_of(creations::greet(state, b))
+    }
+
+    // Takes the lock for the move of an asking agent a.
+    pub fn grant(mut self, a: AgentNo) -> Answer
+        ensures { λ r. ⌜ r ≡ stepTable self (Step.Grant a) ⌝ }
+    {
+        let state = self.state;
+        answer_of(moves::grant(state, a))
+    }
+
+    // A granted agent a goes to its target.
+    pub fn leap(mut self, a: AgentNo) -> Answer
+        ensures { λ r. ⌜ r ≡ stepTable self (Step.Leap a) ⌝ }
+    {
+        let state = self.state;
+        answer_of(moves::leap(state, a))
+    }
+
+    // The server learns where a landed agent a is, and frees the lock.
+    pub fn book(mut self, a: AgentNo) -> Answer
+        ensures { λ r. ⌜ r ≡ stepTable self (Step.Book a) ⌝ }
+    {
+        let state = self.state;
+        answer_of(moves::book(state, a))
+    }
+
+    // A booked agent a becomes free.
+    pub fn settle(mut self, a: AgentNo) -> Answer
+        ensures { λ r. ⌜ r ≡ stepTable self (Step.Settle a) ⌝ }
+    {
+        let state = self.state;
+        answer_of(moves::settle(state, a))
+    }
+
+    // Sends a queued message m out to its addressee's site, with the lock held for it.
+    pub fn forward(mut self, m: MailNo) -> Answer
+        ensures { λ r. ⌜ r ≡ stepTable self (Step.Forward m) ⌝ }
+    {
+        let state = self.state;
+        answer_of(deliveries::forward(state, m))
+    }
+
+    // An out message m reaches its site.
+    pub fn hand(mut self, m: MailNo) -> Answer
+        ensures { λ r. ⌜ r ≡ stepTable self (Step.Hand m) ⌝ }
+    {
+        let state = self.state;
+        answer_of(deliveries::hand(state, m))
+    }
+
+    // A handed message m is over, and the lock is free.
+    pub fn close(mut self, m: MailNo) -> Answer
+        ensures { λ r. ⌜ r ≡ stepTable self (Step.Close m) ⌝ }
+    {
+        let state = self.state;
+        answer_of(deliveries::close(state, m))
+    }
+
+    // Reads the agent a.
+    pub fn agent_at(self, a: AgentNo) -> AgentRead
+        ensures { λ r. ⌜ r ≡ readAgent (self .state) a ⌝ }
+    {
+        let state = self.state;
+        readers::agent_at(state, a)
+    }
+
+    // Reads the message m.
+    pub fn message_at(self, m: MailNo) -> MessageRead
+        ensures { λ r. ⌜ r ≡ readMessage (self .state) m ⌝ }
+    {
+        let state = self.state;
+        readers::message_at(state, m)
+    }
+
+    // Reads the entry at a place of a's inbox, counted from 0 in the order of handing.
+    pub fn inbox_at(self, a: AgentNo, place: u32) -> ItemRead
+        ensures { λ r. ⌜ r ≡ readInbox (self .state) a place ⌝ }
+    {
+        let state = self.state;
+        readers::inbox_at(state, a, place)
+    }
+
+    // Writes the table's text at the front of buf and answers its length. Refused where the table is not sound, and then where the text
+    // is longer than buf; a refused writing changes no byte.
+    pub fn write(self, buf: &mut [u8]) -> Written
+        ensures { λ r. ⌜ (r ≡ writeOf (self .state) (now (buf .entry)) .answer) × (now (buf .exit) ≡ writeOf (self .state) (now (buf .entry)) .buffer) ⌝ }
+    {
+        let state = self.state;
+        written::write(state, buf)
     }
 }

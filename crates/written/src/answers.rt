@@ -1,9 +1,9 @@
 // The line that answers a script line.
 ghost use mathlib.Core.List.{[], _∷_};
 ghost use Prim.Native.Nat.{_≤_};
-ghost use Rattle.written.specs.Decimal.{decimal, bytes};
-ghost use Rattle.written.specs.Placing.{Put};
-ghost use Rattle.written.specs.Text.{fields, row};
+ghost use Rattle.text.specs.Decimal.{decimal, bytes};
+ghost use Rattle.text.specs.Placing.{Put};
+ghost use Rattle.text.specs.Text.{fields, row};
 use crate::fields::put_ended;
 use crate::fields::put_numbered;
 

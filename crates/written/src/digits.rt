@@ -1,6 +1,6 @@
 // Numbers as decimal digits.
-ghost use Rattle.written.specs.Decimal.{decimal};
-ghost use Rattle.written.specs.Placing.{Put};
+ghost use Rattle.text.specs.Decimal.{decimal};
+ghost use Rattle.text.specs.Placing.{Put};
 
 // Puts the digits of a number at the front of ten bytes, with no leading zero, and answers how many they are.
 pub fn digits(n: u32, out: &mut [u8; 10]) -> usize

@@ -2,9 +2,9 @@
 ghost use mathlib.Core.List.{_++_};
 ghost use Prim.Native.Nat.{_+_, _<_, _≤_};
 ghost use lib.ListN.{length};
-ghost use Rattle.written.specs.Decimal.{decimal};
-ghost use Rattle.written.specs.Placing.{Put};
-ghost use Rattle.written.specs.Rows.{ended};
+ghost use Rattle.text.specs.Decimal.{decimal};
+ghost use Rattle.text.specs.Placing.{Put};
+ghost use Rattle.text.specs.Rows.{ended};
 use crate::digits::digits;
 use crate::place::put_byte;
 use crate::place::put_word;

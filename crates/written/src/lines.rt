@@ -1,9 +1,9 @@
 // One line of each kind.
 ghost use Prim.Native.Nat.{_+_, _<_, _≤_};
-ghost use Rattle.written.specs.Decimal.{decimal, bytes};
-ghost use Rattle.written.specs.Placing.{Put};
-ghost use Rattle.written.specs.Text.{row, agentText, messageText};
-ghost use Rattle.written.specs.Rows.{phasePart, mapPart, statusPart, lockLine, countLines};
+ghost use Rattle.text.specs.Decimal.{decimal, bytes};
+ghost use Rattle.text.specs.Placing.{Put};
+ghost use Rattle.text.specs.Text.{row, agentText, messageText};
+ghost use Rattle.text.specs.Rows.{phasePart, mapPart, statusPart, lockLine, countLines};
 use crate::fields::put_ended;
 use crate::fields::put_numbered;
 use crate::place::put_word;

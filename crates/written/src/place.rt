@@ -3,7 +3,7 @@
 ghost use mathlib.Core.List.{[], _∷_};
 ghost use Prim.Native.Nat.{_+_, _<_};
 ghost use lib.ListN.{length};
-ghost use Rattle.written.specs.Placing.{Put, PutWithin};
+ghost use Rattle.text.specs.Placing.{Put, PutWithin};
 
 pub(crate) fn put_byte(buf: &mut [u8], at: usize, byte: u8) -> usize
     requires { ⌜ at < 18446744073709551615 ⌝ }

@@ -1,8 +1,8 @@
 // The rows of the agents, of the messages and of the log, each from 0 upward.
 ghost use Prim.Native.Nat.{_+_, _*_, _<_, _≤_};
-ghost use Rattle.written.specs.Placing.{Put};
-ghost use Rattle.written.specs.Text.{rowsBelow};
-ghost use Rattle.written.specs.Rows.{agentRow, messageRow, logRow};
+ghost use Rattle.text.specs.Placing.{Put};
+ghost use Rattle.text.specs.Text.{rowsBelow};
+ghost use Rattle.text.specs.Rows.{agentRow, messageRow, logRow};
 use crate::lines::put_agent;
 use crate::lines::put_entry;
 use crate::lines::put_message;
@@ -11,8 +11,15 @@ use records::AgentNo;
 use records::MailNo;
 use records::Message;
 use records::Stand;
+use records::limits::AGENT_ROOM;
+use records::limits::MESSAGE_ROOM;
 
-pub(crate) fn put_agents(buf: &mut [u8], at: usize, agents: u32, agent: [Agent; 64]) -> usize
+pub(crate) fn put_agents(
+    buf: &mut [u8],
+    at: usize,
+    agents: u32,
+    agent: [Agent; AGENT_ROOM],
+) -> usize
     requires { ⌜ at < 100000 ⌝ }
     requires { ⌜ agents ≤ 64 ⌝ }
     ensures { λ r. ⌜ Put (rowsBelow agents (agentRow agent)) (now (buf .entry)) (now (buf .exit)) at r × (r ≤ at + 64 * agents) ⌝ }
@@ -32,11 +39,11 @@ pub(crate) fn put_messages(
     buf: &mut [u8],
     at: usize,
     messages: u32,
-    sender: [AgentNo; 512],
-    number: [u32; 512],
-    addressee: [AgentNo; 512],
-    value: [u32; 512],
-    status: [Stand; 512],
+    sender: [AgentNo; MESSAGE_ROOM],
+    number: [u32; MESSAGE_ROOM],
+    addressee: [AgentNo; MESSAGE_ROOM],
+    value: [u32; MESSAGE_ROOM],
+    status: [Stand; MESSAGE_ROOM],
 ) -> usize
     requires { ⌜ at < 200000 ⌝ }
     requires { ⌜ messages ≤ 512 ⌝ }
@@ -65,7 +72,7 @@ pub(crate) fn put_messages(
     next
 }
 
-pub(crate) fn put_log(buf: &mut [u8], at: usize, handed: u32, log: [MailNo; 512]) -> usize
+pub(crate) fn put_log(buf: &mut [u8], at: usize, handed: u32, log: [MailNo; MESSAGE_ROOM]) -> usize
     requires { ⌜ at < 300000 ⌝ }
     requires { ⌜ handed ≤ 512 ⌝ }
     ensures { λ r. ⌜ Put (rowsBelow handed (logRow log)) (now (buf .entry)) (now (buf .exit)) at r × (r ≤ at + 32 * handed) ⌝ }

@@ -1,19 +1,19 @@
 // The whole table's text.
 ghost use mathlib.Core.Path.{_≡_};
-ghost use Rattle.written.specs.Fitting.{CountsFit, writeFitting};
-ghost use Rattle.written.specs.Placing.{Put};
-ghost use Rattle.written.specs.Text.{written};
-use crate::Written;
+ghost use Rattle.text.specs.Fitting.{CountsFit, writeFitting};
+ghost use Rattle.text.specs.Placing.{Put};
+ghost use Rattle.text.specs.Text.{written};
 use crate::lines::put_counts;
 use crate::lines::put_lock;
 use crate::rows::put_agents;
 use crate::rows::put_log;
 use crate::rows::put_messages;
 use records::Code;
-use table::Table;
+use rules::State;
+use text::Written;
 
 // Puts the table's text at the buffer's front, as far as the buffer has room, and answers the text's length.
-pub(crate) fn put_table(buf: &mut [u8], t: Table) -> usize
+pub(crate) fn put_table(buf: &mut [u8], t: State) -> usize
     requires { ⌜ CountsFit t ⌝ }
     ensures { λ r. ⌜ Put (written t) (now (buf .entry)) (now (buf .exit)) 0 r ⌝ }
 {
@@ -43,7 +43,7 @@ pub(crate) fn put_table(buf: &mut [u8], t: Table) -> usize
 }
 
 // A writing of a sound table. The text is measured in a buffer of no room before a byte of the lent one is stored.
-pub(crate) fn write_sound(t: Table, buf: &mut [u8]) -> Written
+pub(crate) fn write_sound(t: State, buf: &mut [u8]) -> Written
     requires { ⌜ CountsFit t ⌝ }
     ensures { λ r. ⌜ (r ≡ writeFitting t (now (buf .entry)) .answer) × (now (buf .exit) ≡ writeFitting t (now (buf .entry)) .buffer) ⌝ }
 {

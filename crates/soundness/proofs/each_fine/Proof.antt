@@ -2,7 +2,7 @@
 use borrow.Author.Needs.{needs}
 use Rattle.soundness.proofs.each_fine.Statement.{statement}
 use Rattle.soundness.proofs.each_fine.Tie as tie
-use Rattle.soundness.specs.Tests.{eachFine}
+use Rattle.rules.specs.Tests.{eachFine}
 
 agents-fine-requires : tie.Need-agents-fine-requires
 agents-fine-requires c κs = search needs
@@ -21,7 +21,7 @@ both-requires-2 c κs = search needs
 
 returns : tie.Need-returns
 unfolding eachFine
-returns c = cc
+returns c = rw (c .both2 .ensures, c .before .both .ensures, c .before .before .messages-fine .ensures, c .before .before .before .lock-there .ensures, c .before .before .before .before .agents-fine .ensures)
 
 pub each-fine-spec : {M : Type 1} → statement M
 each-fine-spec =

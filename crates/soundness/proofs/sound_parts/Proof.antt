@@ -5,8 +5,8 @@ use Rattle.soundness.proofs.sound_parts.Tie as tie
 use mathlib.Core.Path.{sym, ap₂, _∙_}
 use mathlib.Core.Bool.{_&&_}
 use borrow.Author.Tests.{not-true, not-false}
-use Rattle.soundness.specs.Tests.{partsSound}
-use Rattle.soundness.proofs.Limits.{Limits, limits, senders-below, each-refused, each-passed}
+use Rattle.rules.specs.Tests.{partsSound}
+use Rattle.rules.proofs.Limits.{Limits, limits, senders-below, each-refused, each-passed}
 
 counts-fine-requires : tie.Need-counts-fine-requires
 counts-fine-requires c κs = search needs

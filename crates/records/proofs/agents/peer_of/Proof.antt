@@ -28,7 +28,7 @@ enum-told-5 : tie.Need-enum-told-5
 enum-told-5 c = search needs
 
 returns : tie.Need-returns
-returns c = cc
+returns c = rw (c .enum-told .given .1)
 
 returns-2 : tie.Need-returns-2
 returns-2 c = search needs
@@ -40,16 +40,16 @@ returns-4 : tie.Need-returns-4
 returns-4 c = search needs
 
 returns-5 : tie.Need-returns-5
-returns-5 c = cc
+returns-5 c = rw (c .enum-told2 .given .1)
 
 returns-6 : tie.Need-returns-6
-returns-6 c = cc
+returns-6 c = rw (c .enum-told3 .given .1)
 
 returns-7 : tie.Need-returns-7
-returns-7 c = cc
+returns-7 c = rw (c .enum-told4 .given .1)
 
 returns-8 : tie.Need-returns-8
-returns-8 c = cc
+returns-8 c = rw (c .enum-told5 .given .1)
 
 pub peer-of-spec : {M : Type 1} → statement M
 peer-of-spec =

@@ -5,10 +5,10 @@ use mathlib.Core.List.{List, [], _∷_}
 use native.Mathlib.Nat.{zero-add}
 use native.Mathlib.Omega.{arith}
 use lib.ListN.{take}
-use Rattle.written.specs.Decimal.{decimal, bytes}
-use Rattle.written.specs.Text.{fields, row}
-use Rattle.written.proofs.Placing.{put-front}
-use Rattle.script.specs.Running.{answerText}
+use Rattle.text.specs.Decimal.{decimal, bytes}
+use Rattle.text.specs.Text.{fields, row}
+use Rattle.text.proofs.Placing.{put-front}
+use Rattle.program.specs.Program.{answerLine}
 use borrow.Author.Needs.{needs}
 use Rattle.script.proofs.running.put_answer.Statement.{statement}
 use Rattle.script.proofs.running.put_answer.Tie as tie
@@ -33,8 +33,8 @@ module _ (c : tie.After-answer-line) where
   front : take (c .answer-line .result) (c .answer-line .last .0) ≡ lineShowing (c .before .before .code-number .result)
   front = put-front (omega (arith, c .answer-line .ensures .0 .place, c .answer-line .ensures .1)) (c .answer-line .ensures .0)
 
-  answer : take (c .answer-line .result) (c .answer-line .last .0) ≡ answerText (c .before .before .before .before .args .k) (c .before .before .before .before .args .code) (c .before .before .before .before .args .number)
-  unfolding answerText
+  answer : take (c .answer-line .result) (c .answer-line .last .0) ≡ answerLine (c .before .before .before .before .args .k) (c .before .before .before .before .args .code) (c .before .before .before .before .args .number)
+  unfolding answerLine
   answer = front ∙ ap lineShowing (c .before .before .code-number .ensures)
 
 slice-aggregate-put-text : tie.Need-slice-aggregate-put-text

@@ -1,7 +1,7 @@
 -- `script::running::put_end` meets its contract.
-use Rattle.script.specs.Running.{runEnd}
-use Rattle.script.proofs.Runs.{came-same, came-put}
-use Rattle.script.proofs.Turns.{when-true, when-false}
+use Rattle.program.specs.Running.{runEnd}
+use Rattle.program.proofs.Runs.{came-same, came-put}
+use Rattle.program.proofs.Turns.{when-true, when-false}
 use borrow.Author.Needs.{needs}
 use Rattle.script.proofs.running.put_end.Statement.{statement}
 use Rattle.script.proofs.running.put_end.Tie as tie

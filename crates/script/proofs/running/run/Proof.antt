@@ -1,9 +1,9 @@
 -- `script::running::run` meets its contract.
 use borrow.Author.Needs.{needs}
 use borrow.Author.Tests.{le-leb, lt-leb}
-use Rattle.script.specs.Running.{runOf}
-use Rattle.script.proofs.Runs.{came-same, came-put}
-use Rattle.script.proofs.Turns.{when-true, when-false}
+use Rattle.program.specs.Running.{runOf}
+use Rattle.program.proofs.Runs.{came-same, came-put}
+use Rattle.program.proofs.Turns.{when-true, when-false}
 use Rattle.script.proofs.running.run.Statement.{statement}
 use Rattle.script.proofs.running.run.Tie as tie
 

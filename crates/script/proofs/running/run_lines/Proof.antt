@@ -3,11 +3,11 @@ use Prim.Native.Nat.{suc, _+_, _≤_}
 use mathlib.Core.Path.{_≡_, refl, sym, _∙_}
 use native.Mathlib.Omega.{arith}
 use lib.ListN.{length}
-use Rattle.script.specs.Lines.{linesOf}
-use Rattle.script.specs.Program.{noDesk}
-use Rattle.script.specs.Running.{from, atFront, runLines}
-use Rattle.script.proofs.LineEnds.{taken-within, taken-some}
-use Rattle.script.proofs.Runs.{came-same, part-length, turn-on, run-ends}
+use Rattle.grammar.specs.Lines.{linesOf}
+use Rattle.program.specs.Program.{noDesk}
+use Rattle.program.specs.Running.{from, atFront, runLines}
+use Rattle.grammar.proofs.LineEnds.{taken-within, taken-some}
+use Rattle.program.proofs.Runs.{came-same, part-length, turn-on, run-ends}
 use borrow.Author.Needs.{needs}
 use Rattle.script.proofs.running.run_lines.Statement.{statement}
 use Rattle.script.proofs.running.run_lines.Tie as tie

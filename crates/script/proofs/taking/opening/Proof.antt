@@ -2,7 +2,7 @@
 use mathlib.Core.Path.{ap, _∙_}
 use mathlib.Core.Bool.{Bool}
 use lib.Dec.{eqb}
-use Rattle.script.specs.Program.{openedBy}
+use Rattle.program.specs.Program.{openedBy}
 use borrow.Author.Needs.{needs}
 use Rattle.script.proofs.taking.opening.Statement.{statement}
 use Rattle.script.proofs.taking.opening.Tie as tie

@@ -1,8 +1,8 @@
 -- `script::taking::take` meets its contract.
 use mathlib.Core.Path.{ap, _∙_}
 use borrow.Author.Tests.{not-true, not-false}
-use Rattle.script.specs.Program.{steppedBy}
-use Rattle.script.proofs.Turns.{no-step, not-open, steps}
+use Rattle.program.specs.Program.{steppedBy}
+use Rattle.program.proofs.Turns.{no-step, not-open, steps}
 use borrow.Author.Needs.{needs}
 use Rattle.script.proofs.taking.take.Statement.{statement}
 use Rattle.script.proofs.taking.take.Tie as tie

@@ -1,6 +1,6 @@
 -- `script::taking::take_opening` meets its contract.
 use mathlib.Core.Path.{_∙_}
-use Rattle.script.proofs.Turns.{no-opening, opened-again, opens}
+use Rattle.program.proofs.Turns.{no-opening, opened-again, opens}
 use borrow.Author.Needs.{needs}
 use Rattle.script.proofs.taking.take_opening.Statement.{statement}
 use Rattle.script.proofs.taking.take_opening.Tie as tie

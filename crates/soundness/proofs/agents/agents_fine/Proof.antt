@@ -6,9 +6,9 @@ use Prim.Native.Nat.{ℕ, _+_, _-_, _≤_, _<_}
 use mathlib.Core.Bool.{Bool, _&&_}
 use mathlib.Core.Path.{_≡_, refl, ap₂, _∙_}
 use Rattle.records.specs.Places.{allBelow, allOf}
-use Rattle.soundness.specs.Tests.{agentFine, agentRoom}
-use Rattle.soundness.proofs.Laws.{below-on, below-end, room-on, room-end}
-use Rattle.soundness.proofs.Reading.{agent-read}
+use Rattle.rules.specs.Tests.{agentFine, agentRoom}
+use Rattle.records.proofs.LoopLaws.{below-on, below-end, room-on, room-end}
+use Rattle.rules.proofs.PlacesRead.{agent-read}
 use lib.ListN.{getD, drop}
 use Rattle.records.specs.Agents.{isEmptyAgent, emptyAgent}
 use Rattle.records.specs.declared.Agent.{Agent}
@@ -110,7 +110,7 @@ goes-on2 : (l : tie.At-loop2 Inv-loop μ-loop Inv-loop2 μ-loop2) (next : Bool) 
 goes-on2 l next more step = room-on test (l .before .before .before .args .t4) emptyAgent (l .before .before .before .args .agents) (l .loop2 .j) (l .loop2 .empty) next (search needs) (l .loop2 .inv) step
 
 loop2-again : tie.Need-loop2-again Inv-loop μ-loop Inv-loop2 μ-loop2
-loop2-again c = goes-on2 (c .before .before .before .before) (c .both2 .result) (search needs) (cc)
+loop2-again c = goes-on2 (c .before .before .before .before) (c .both2 .result) (search needs) (rw (c .both2 .ensures, c .before .is-empty-agent .ensures))
 
 room2 : (l : tie.At-loop2 Inv-loop μ-loop Inv-loop2 μ-loop2) → 64 ≤ l .loop2 .j → l .loop2 .empty ≡ agentRoom (l .before .before .before .args .agents) (l .before .before .before .args .t4)
 unfolding agentRoom

@@ -2,7 +2,7 @@
 use borrow.Author.Needs.{needs}
 use Rattle.soundness.proofs.book.book_fine.Statement.{statement}
 use Rattle.soundness.proofs.book.book_fine.Tie as tie
-use Rattle.soundness.specs.Tests.{bookFine}
+use Rattle.rules.specs.Tests.{bookFine}
 
 numbers-run-requires : tie.Need-numbers-run-requires
 numbers-run-requires c κs = search needs
@@ -15,7 +15,7 @@ both-requires c κs = search needs
 
 returns : tie.Need-returns
 unfolding bookFine
-returns c = cc
+returns c = rw (c .both .ensures, c .before .log-runs .ensures, c .before .before .numbers-run .ensures)
 
 pub book-fine-spec : {M : Type 1} → statement M
 book-fine-spec = tie.close (tie.spec numbers-run-requires log-runs-requires both-requires returns)

@@ -8,12 +8,12 @@ use mathlib.Core.List.{List}
 use mathlib.Core.Path.{_≡_, refl, sym, ap, _∙_}
 use lib.ListN.{getD, set, drop}
 use lib.Dec.{ltb, eqb}
-use Rattle.soundness.specs.Tests.{logRuns, noMarks, delivered, entryIn, statusRoom, logRoom}
-use Rattle.soundness.proofs.Running.{log-start, log-on, log-end}
+use Rattle.rules.specs.Tests.{logRuns, noMarks, delivered, entryIn, statusRoom, logRoom}
+use Rattle.rules.proofs.TestRuns.{log-start, log-on, log-end}
 use Rattle.records.specs.Places.{allOf}
 use Rattle.records.specs.Messages.{emptyEntry}
 use Rattle.records.specs.declared.MailNo.{MailNo}
-use Rattle.soundness.proofs.Laws.{room-on, room-end}
+use Rattle.records.proofs.LoopLaws.{room-on, room-end}
 
 abbrev test : MailNo → Bool
 test x = eqb (x .0) 0
@@ -107,7 +107,7 @@ ends l room empty over =
 loop-again : tie.Need-loop-again Inv-loop μ-loop Inv-loop2 μ-loop2
 loop-again c = (
   search needs,
-  goes-on (c .before .before .before .before .before .before .before) (c .before .before .before .before .mail-place .result) (c .both2 .result) (search needs) (c .before .before .before .before .mail-place .ensures .1) (cc),
+  goes-on (c .before .before .before .before .before .before .before) (c .before .before .before .before .mail-place .result) (c .both2 .result) (search needs) (c .before .before .before .before .mail-place .ensures .1) (rw (c .both2 .ensures, c .before .both .ensures, c .before .before .before .opposite .ensures)),
 )
 
 loop2-holds : tie.Need-loop2-holds Inv-loop μ-loop Inv-loop2 μ-loop2
@@ -132,7 +132,7 @@ goes-on2 : (l : tie.At-loop2 Inv-loop μ-loop Inv-loop2 μ-loop2) (next : Bool) 
 goes-on2 l next more step = room-on test (l .before .before .before .args .t4) emptyEntry (l .before .before .before .args .handed) (l .loop2 .j) (l .loop2 .empty) next (search needs) (l .loop2 .inv) step
 
 loop2-again : tie.Need-loop2-again Inv-loop μ-loop Inv-loop2 μ-loop2
-loop2-again c = goes-on2 (c .before .before .before .before) (c .both3 .result) (search needs) (cc)
+loop2-again c = goes-on2 (c .before .before .before .before) (c .both3 .result) (search needs) (c .both3 .ensures)
 
 room2 : (l : tie.At-loop2 Inv-loop μ-loop Inv-loop2 μ-loop2) → 512 ≤ l .loop2 .j → l .loop2 .empty ≡ logRoom (l .before .before .before .args .handed) (l .before .before .before .args .t4)
 unfolding logRoom

@@ -9,8 +9,8 @@ use lib.ListN.{getD, drop}
 use Rattle.records.specs.Numbers.{mailNo}
 use Rattle.records.specs.Messages.{isDelivered, isQueued, standing}
 use Rattle.records.specs.Places.{allBelow, allOf}
-use Rattle.soundness.specs.Tests.{delivered, statusIn, statusRoom}
-use Rattle.soundness.proofs.Laws.{below-on, below-end, room-on, room-end}
+use Rattle.rules.specs.Tests.{delivered, statusIn, statusRoom}
+use Rattle.records.proofs.LoopLaws.{below-on, below-end, room-on, room-end}
 use Rattle.records.specs.declared.Status.the-variants.{Queued}
 use Rattle.records.specs.declared.Stand.{Stand}
 
@@ -71,7 +71,7 @@ tests l j =
 loop-again : tie.Need-loop-again Inv-loop μ-loop Inv-loop2 μ-loop2
 loop-again c = (
   search needs,
-  below-on (tests (c .before .before .before .before .before .before)) (c .before .before .before .before .before .before .loop .i) (c .before .before .before .before .before .before .loop .fine) (c .before .same-flag .result) (c .both .result) (c .before .before .before .before .before .before .loop .inv .1) (cc) (c .both .ensures),
+  below-on (tests (c .before .before .before .before .before .before)) (c .before .before .before .before .before .before .loop .i) (c .before .before .before .before .before .before .loop .fine) (c .before .same-flag .result) (c .both .result) (c .before .before .before .before .before .before .loop .inv .1) (rw (c .before .same-flag .ensures, c .before .before .either .ensures, c .before .before .before .status-kind .ensures)) (c .both .ensures),
 )
 
 loop2-holds : tie.Need-loop2-holds Inv-loop μ-loop Inv-loop2 μ-loop2
@@ -99,7 +99,7 @@ goes-on2 : (l : tie.At-loop2 Inv-loop μ-loop Inv-loop2 μ-loop2) (next : Bool) 
 goes-on2 l next more step = room-on test (l .before .before .before .args .t2) (standing Queued) (l .before .before .before .args .messages) (l .loop2 .j) (l .loop2 .empty) next (search needs) (l .loop2 .inv) step
 
 loop2-again : tie.Need-loop2-again Inv-loop μ-loop Inv-loop2 μ-loop2
-loop2-again c = goes-on2 (c .before .before .before .before) (c .both2 .result) (search needs) (cc)
+loop2-again c = goes-on2 (c .before .before .before .before) (c .both2 .result) (search needs) (rw (c .both2 .ensures, c .before .status-kind2 .ensures))
 
 room2 : (l : tie.At-loop2 Inv-loop μ-loop Inv-loop2 μ-loop2) → 512 ≤ l .loop2 .j → l .loop2 .empty ≡ statusRoom (l .before .before .before .args .messages) (l .before .before .before .args .t2)
 unfolding statusRoom

@@ -10,10 +10,10 @@ use native.Mathlib.Omega.{arith}
 use lib.ListN.{getD, set, drop}
 use lib.Dec.{eqb}
 use Rattle.records.specs.Numbers.{mailNo}
-use Rattle.soundness.specs.Tests.{numbersRun, noCounts, partyIn, numberRoom}
-use Rattle.soundness.proofs.Running.{numbers-start, numbers-on, numbers-end, no-counts, counts-on}
+use Rattle.rules.specs.Tests.{numbersRun, noCounts, partyIn, numberRoom}
+use Rattle.rules.proofs.TestRuns.{numbers-start, numbers-on, numbers-end, no-counts, counts-on}
 use Rattle.records.specs.Places.{allOf}
-use Rattle.soundness.proofs.Laws.{room-on, room-end}
+use Rattle.records.proofs.LoopLaws.{room-on, room-end}
 
 abbrev test : ℕ → Bool
 test x = eqb x 0
@@ -124,7 +124,7 @@ goes-on2 : (l : tie.At-loop2 Inv-loop μ-loop Inv-loop2 μ-loop2) (next : Bool) 
 goes-on2 l next more step = room-on test (l .before .before .before .args .t3) 0 (l .before .before .before .args .messages) (l .loop2 .j) (l .loop2 .empty) next (search needs) (l .loop2 .inv) step
 
 loop2-again : tie.Need-loop2-again Inv-loop μ-loop Inv-loop2 μ-loop2
-loop2-again c = goes-on2 (c .before .before) (c .both2 .result) (search needs) (cc)
+loop2-again c = goes-on2 (c .before .before) (c .both2 .result) (search needs) (c .both2 .ensures)
 
 room2 : (l : tie.At-loop2 Inv-loop μ-loop Inv-loop2 μ-loop2) → 512 ≤ l .loop2 .j → l .loop2 .empty ≡ numberRoom (l .before .before .before .args .messages) (l .before .before .before .args .t3)
 unfolding numberRoom

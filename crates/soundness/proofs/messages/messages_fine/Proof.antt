@@ -10,9 +10,9 @@ use Rattle.records.specs.Places.{allBelow, allOf}
 use lib.ListN.{getD, drop}
 use Rattle.records.specs.Agents.{emptyAgent}
 use Rattle.records.specs.Numbers.{agentNo, mailNo}
-use Rattle.soundness.specs.Tests.{messageFine, partyIn, statusIn, partyRoom}
-use Rattle.soundness.proofs.Laws.{below-on, below-off, below-end, fails-first, room-on, room-end}
-use Rattle.soundness.proofs.Reading.{messageRight, message-read}
+use Rattle.rules.specs.Tests.{messageFine, partyIn, statusIn, partyRoom}
+use Rattle.records.proofs.LoopLaws.{below-on, below-off, below-end, fails-first, room-on, room-end}
+use Rattle.rules.proofs.PlacesRead.{messageRight, message-read}
 use lib.Dec.{eqb}
 use Rattle.records.specs.declared.AgentNo.{AgentNo}
 
@@ -152,7 +152,7 @@ goes-on2 : (l : tie.At-loop2 Inv-loop μ-loop Inv-loop2 μ-loop2 Inv-loop3 μ-lo
 goes-on2 l next more step = room-on test (l .before .before .before .args .t5) (agentNo 0) (l .before .before .before .args .messages) (l .loop2 .j) (l .loop2 .senders) next (search needs) (l .loop2 .inv) step
 
 loop2-again : tie.Need-loop2-again Inv-loop μ-loop Inv-loop2 μ-loop2 Inv-loop3 μ-loop3
-loop2-again c = goes-on2 (c .before .before .before .before) (c .both .result) (search needs) (cc)
+loop2-again c = goes-on2 (c .before .before .before .before) (c .both .result) (search needs) (c .both .ensures)
 
 room2 : (l : tie.At-loop2 Inv-loop μ-loop Inv-loop2 μ-loop2 Inv-loop3 μ-loop3) → 512 ≤ l .loop2 .j → l .loop2 .senders ≡ partyRoom (l .before .before .before .args .messages) (l .before .before .before .args .t5)
 unfolding partyRoom
@@ -180,7 +180,7 @@ goes-on3 : (l : tie.At-loop3 Inv-loop μ-loop Inv-loop2 μ-loop2 Inv-loop3 μ-lo
 goes-on3 l next more step = room-on test (l .before .before .before .before .before .args .t6) (agentNo 0) (l .before .before .before .before .before .args .messages) (l .loop3 .k) (l .loop3 .addressees) next (search needs) (l .loop3 .inv) step
 
 loop3-again : tie.Need-loop3-again Inv-loop μ-loop Inv-loop2 μ-loop2 Inv-loop3 μ-loop3
-loop3-again c = goes-on3 (c .before .before .before .before) (c .both2 .result) (search needs) (cc)
+loop3-again c = goes-on3 (c .before .before .before .before) (c .both2 .result) (search needs) (c .both2 .ensures)
 
 room3 : (l : tie.At-loop3 Inv-loop μ-loop Inv-loop2 μ-loop2 Inv-loop3 μ-loop3) → 512 ≤ l .loop3 .k → l .loop3 .addressees ≡ partyRoom (l .before .before .before .before .before .args .messages) (l .before .before .before .before .before .args .t6)
 unfolding partyRoom

@@ -8,8 +8,8 @@ use mathlib.Core.Path.{_≡_, refl}
 use lib.Dec.{eqb}
 use lib.ListN.{getD, drop}
 use Rattle.records.specs.Places.{allOf}
-use Rattle.soundness.specs.Tests.{numberRoom}
-use Rattle.soundness.proofs.Laws.{room-on, room-end}
+use Rattle.rules.specs.Tests.{numberRoom}
+use Rattle.records.proofs.LoopLaws.{room-on, room-end}
 
 abbrev test : ℕ → Bool
 test x = eqb x 0
@@ -45,7 +45,7 @@ goes-on l next more step =
     step
 
 loop-again : tie.Need-loop-again Inv-loop μ-loop
-loop-again c = goes-on (c .before .before) (c .both .result) (search needs) (cc)
+loop-again c = goes-on (c .before .before) (c .both .result) (search needs) (c .both .ensures)
 
 returns : tie.Need-returns Inv-loop μ-loop
 unfolding numberRoom

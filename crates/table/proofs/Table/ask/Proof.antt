@@ -1,20 +1,19 @@
 -- `Table::ask` meets its contract.
-use Rattle.table.specs.declared.Step.the-variants.{Ask}
-use Rattle.table.specs.Steps.{ruleOf}
-use Rattle.table.proofs.Stepping.{step-by}
+use mathlib.Core.Path.{_∙_, ap}
+use Rattle.table.specs.Face.{answerOf, stepTable}
 use borrow.Author.Needs.{needs}
 use Rattle.table.proofs.Table.ask.Statement.{statement}
 use Rattle.table.proofs.Table.ask.Tie as tie
 
-is-sound-requires : tie.Need-is-sound-requires
-is-sound-requires c κs = search needs
+ask-requires : tie.Need-ask-requires
+ask-requires c κs = search needs
 
-ask-rule-requires : tie.Need-ask-rule-requires
-ask-rule-requires c κs = search needs
+answer-of-requires : tie.Need-answer-of-requires
+answer-of-requires c κs = search needs
 
 returns : tie.Need-returns
-unfolding ruleOf
-returns c = step-by (c .before .before .args .self) (Ask (c .before .before .args .a) (c .before .before .args .u)) (c .before .is-sound .ensures) (c .ask-rule .ensures)
+unfolding stepTable
+returns c = c .answer-of .ensures ∙ ap answerOf (c .before .ask .ensures)
 
 pub ask-spec : {M : Type 1} → statement M
-ask-spec = tie.close (tie.spec is-sound-requires ask-rule-requires returns)
+ask-spec = tie.close (tie.spec ask-requires answer-of-requires returns)

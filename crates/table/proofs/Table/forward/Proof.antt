@@ -1,20 +1,19 @@
 -- `Table::forward` meets its contract.
-use Rattle.table.specs.declared.Step.the-variants.{Forward}
-use Rattle.table.specs.Steps.{ruleOf}
-use Rattle.table.proofs.Stepping.{step-by, test-fits}
+use mathlib.Core.Path.{_∙_, ap}
+use Rattle.table.specs.Face.{answerOf, stepTable}
 use borrow.Author.Needs.{needs}
 use Rattle.table.proofs.Table.forward.Statement.{statement}
 use Rattle.table.proofs.Table.forward.Tie as tie
 
-is-sound-requires : tie.Need-is-sound-requires
-is-sound-requires c κs = search needs
+forward-requires : tie.Need-forward-requires
+forward-requires c κs = search needs
 
-forward-rule-requires : tie.Need-forward-rule-requires
-forward-rule-requires c κs = test-fits (c .before .args .self) (c .is-sound .ensures)
+answer-of-requires : tie.Need-answer-of-requires
+answer-of-requires c κs = search needs
 
 returns : tie.Need-returns
-unfolding ruleOf
-returns c = step-by (c .before .before .args .self) (Forward (c .before .before .args .m)) (c .before .is-sound .ensures) (c .forward-rule .ensures)
+unfolding stepTable
+returns c = c .answer-of .ensures ∙ ap answerOf (c .before .forward .ensures)
 
 pub forward-spec : {M : Type 1} → statement M
-forward-spec = tie.close (tie.spec is-sound-requires forward-rule-requires returns)
+forward-spec = tie.close (tie.spec forward-requires answer-of-requires returns)

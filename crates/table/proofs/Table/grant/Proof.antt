@@ -1,20 +1,19 @@
 -- `Table::grant` meets its contract.
-use Rattle.table.specs.declared.Step.the-variants.{Grant}
-use Rattle.table.specs.Steps.{ruleOf}
-use Rattle.table.proofs.Stepping.{step-by}
+use mathlib.Core.Path.{_∙_, ap}
+use Rattle.table.specs.Face.{answerOf, stepTable}
 use borrow.Author.Needs.{needs}
 use Rattle.table.proofs.Table.grant.Statement.{statement}
 use Rattle.table.proofs.Table.grant.Tie as tie
 
-is-sound-requires : tie.Need-is-sound-requires
-is-sound-requires c κs = search needs
+grant-requires : tie.Need-grant-requires
+grant-requires c κs = search needs
 
-grant-rule-requires : tie.Need-grant-rule-requires
-grant-rule-requires c κs = search needs
+answer-of-requires : tie.Need-answer-of-requires
+answer-of-requires c κs = search needs
 
 returns : tie.Need-returns
-unfolding ruleOf
-returns c = step-by (c .before .before .args .self) (Grant (c .before .before .args .a)) (c .before .is-sound .ensures) (c .grant-rule .ensures)
+unfolding stepTable
+returns c = c .answer-of .ensures ∙ ap answerOf (c .before .grant .ensures)
 
 pub grant-spec : {M : Type 1} → statement M
-grant-spec = tie.close (tie.spec is-sound-requires grant-rule-requires returns)
+grant-spec = tie.close (tie.spec grant-requires answer-of-requires returns)

@@ -1,20 +1,19 @@
 -- `Table::greet` meets its contract.
-use Rattle.table.specs.declared.Step.the-variants.{Greet}
-use Rattle.table.specs.Steps.{ruleOf}
-use Rattle.table.proofs.Stepping.{step-by}
+use mathlib.Core.Path.{_∙_, ap}
+use Rattle.table.specs.Face.{answerOf, stepTable}
 use borrow.Author.Needs.{needs}
 use Rattle.table.proofs.Table.greet.Statement.{statement}
 use Rattle.table.proofs.Table.greet.Tie as tie
 
-is-sound-requires : tie.Need-is-sound-requires
-is-sound-requires c κs = search needs
+greet-requires : tie.Need-greet-requires
+greet-requires c κs = search needs
 
-greet-rule-requires : tie.Need-greet-rule-requires
-greet-rule-requires c κs = search needs
+answer-of-requires : tie.Need-answer-of-requires
+answer-of-requires c κs = search needs
 
 returns : tie.Need-returns
-unfolding ruleOf
-returns c = step-by (c .before .before .args .self) (Greet (c .before .before .args .b)) (c .before .is-sound .ensures) (c .greet-rule .ensures)
+unfolding stepTable
+returns c = c .answer-of .ensures ∙ ap answerOf (c .before .greet .ensures)
 
 pub greet-spec : {M : Type 1} → statement M
-greet-spec = tie.close (tie.spec is-sound-requires greet-rule-requires returns)
+greet-spec = tie.close (tie.spec greet-requires answer-of-requires returns)

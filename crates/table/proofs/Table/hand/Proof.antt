@@ -1,20 +1,19 @@
 -- `Table::hand` meets its contract.
-use Rattle.table.specs.declared.Step.the-variants.{Hand}
-use Rattle.table.specs.Steps.{ruleOf}
-use Rattle.table.proofs.Stepping.{step-by, test-fits}
+use mathlib.Core.Path.{_∙_, ap}
+use Rattle.table.specs.Face.{answerOf, stepTable}
 use borrow.Author.Needs.{needs}
 use Rattle.table.proofs.Table.hand.Statement.{statement}
 use Rattle.table.proofs.Table.hand.Tie as tie
 
-is-sound-requires : tie.Need-is-sound-requires
-is-sound-requires c κs = search needs
+hand-requires : tie.Need-hand-requires
+hand-requires c κs = search needs
 
-hand-rule-requires : tie.Need-hand-rule-requires
-hand-rule-requires c κs = test-fits (c .before .args .self) (c .is-sound .ensures)
+answer-of-requires : tie.Need-answer-of-requires
+answer-of-requires c κs = search needs
 
 returns : tie.Need-returns
-unfolding ruleOf
-returns c = step-by (c .before .before .args .self) (Hand (c .before .before .args .m)) (c .before .is-sound .ensures) (c .hand-rule .ensures)
+unfolding stepTable
+returns c = c .answer-of .ensures ∙ ap answerOf (c .before .hand .ensures)
 
 pub hand-spec : {M : Type 1} → statement M
-hand-spec = tie.close (tie.spec is-sound-requires hand-rule-requires returns)
+hand-spec = tie.close (tie.spec hand-requires answer-of-requires returns)

@@ -1,20 +1,19 @@
 -- `Table::settle` meets its contract.
-use Rattle.table.specs.declared.Step.the-variants.{Settle}
-use Rattle.table.specs.Steps.{ruleOf}
-use Rattle.table.proofs.Stepping.{step-by}
+use mathlib.Core.Path.{_∙_, ap}
+use Rattle.table.specs.Face.{answerOf, stepTable}
 use borrow.Author.Needs.{needs}
 use Rattle.table.proofs.Table.settle.Statement.{statement}
 use Rattle.table.proofs.Table.settle.Tie as tie
 
-is-sound-requires : tie.Need-is-sound-requires
-is-sound-requires c κs = search needs
+settle-requires : tie.Need-settle-requires
+settle-requires c κs = search needs
 
-settle-rule-requires : tie.Need-settle-rule-requires
-settle-rule-requires c κs = search needs
+answer-of-requires : tie.Need-answer-of-requires
+answer-of-requires c κs = search needs
 
 returns : tie.Need-returns
-unfolding ruleOf
-returns c = step-by (c .before .before .args .self) (Settle (c .before .before .args .a)) (c .before .is-sound .ensures) (c .settle-rule .ensures)
+unfolding stepTable
+returns c = c .answer-of .ensures ∙ ap answerOf (c .before .settle .ensures)
 
 pub settle-spec : {M : Type 1} → statement M
-settle-spec = tie.close (tie.spec is-sound-requires settle-rule-requires returns)
+settle-spec = tie.close (tie.spec settle-requires answer-of-requires returns)

@@ -1,20 +1,19 @@
 -- `Table::spawn` meets its contract.
-use Rattle.table.specs.declared.Step.the-variants.{Spawn}
-use Rattle.table.specs.Steps.{ruleOf}
-use Rattle.table.proofs.Stepping.{step-by}
+use mathlib.Core.Path.{_∙_, ap}
+use Rattle.table.specs.Face.{answerOf, stepTable}
 use borrow.Author.Needs.{needs}
 use Rattle.table.proofs.Table.spawn.Statement.{statement}
 use Rattle.table.proofs.Table.spawn.Tie as tie
 
-is-sound-requires : tie.Need-is-sound-requires
-is-sound-requires c κs = search needs
+spawn-requires : tie.Need-spawn-requires
+spawn-requires c κs = search needs
 
-spawn-rule-requires : tie.Need-spawn-rule-requires
-spawn-rule-requires c κs = search needs
+answer-of-requires : tie.Need-answer-of-requires
+answer-of-requires c κs = search needs
 
 returns : tie.Need-returns
-unfolding ruleOf
-returns c = step-by (c .before .before .args .self) (Spawn (c .before .before .args .a)) (c .before .is-sound .ensures) (c .spawn-rule .ensures)
+unfolding stepTable
+returns c = c .answer-of .ensures ∙ ap answerOf (c .before .spawn .ensures)
 
 pub spawn-spec : {M : Type 1} → statement M
-spawn-spec = tie.close (tie.spec is-sound-requires spawn-rule-requires returns)
+spawn-spec = tie.close (tie.spec spawn-requires answer-of-requires returns)

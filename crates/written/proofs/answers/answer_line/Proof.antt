@@ -1,8 +1,8 @@
 -- `written::answers::answer_line` meets its contract.
 use native.Mathlib.Omega.{arith}
 use borrow.Author.Needs.{needs}
-use Rattle.written.proofs.Parts.{answer-parts}
-use Rattle.written.proofs.Placing.{put-then, put-same}
+use Rattle.text.proofs.RowParts.{answer-parts}
+use Rattle.text.proofs.Placing.{put-then, put-same}
 use Rattle.written.proofs.answers.answer_line.Statement.{statement}
 use Rattle.written.proofs.answers.answer_line.Tie as tie
 

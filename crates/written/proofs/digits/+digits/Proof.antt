@@ -7,9 +7,9 @@ use lib.ListN.{length}
 use borrow.Author.Needs.{needs}
 use borrow.Fn.Kinds.{In}
 use borrow.Fn.PlainCycle.{Measures, is, falls, and}
-use Rattle.written.specs.Decimal.{decimal}
-use Rattle.written.proofs.Decimals.{decimal-ones, decimal-tens, decimal-length}
-use Rattle.written.proofs.Placing.{put-one, put-then, put-same}
+use Rattle.text.specs.Decimal.{decimal}
+use Rattle.text.proofs.Decimals.{decimal-ones, decimal-tens, decimal-length}
+use Rattle.text.proofs.Placing.{put-one, put-then, put-same}
 use Rattle.written.proofs.digits.digits.Reads as digits
 use Rattle.written.proofs.digits.digits.Kinds as digits-kinds
 use Rattle.written.proofs.digits.+digits.Lts-digits as digits-lts

@@ -1,7 +1,7 @@
 -- `written::fields::put_ended` meets its contract.
 use native.Mathlib.Omega.{arith}
 use borrow.Author.Needs.{needs}
-use Rattle.written.proofs.Placing.{put-then}
+use Rattle.text.proofs.Placing.{put-then}
 use Rattle.written.proofs.fields.put_ended.Statement.{statement}
 use Rattle.written.proofs.fields.put_ended.Tie as tie
 

@@ -5,9 +5,9 @@ use native.Mathlib.Nat.{zero-add}
 use native.Mathlib.Omega.{arith}
 use lib.ListN.{length, take}
 use borrow.Author.Needs.{needs}
-use Rattle.written.specs.Decimal.{decimal}
-use Rattle.written.proofs.Decimals.{decimal-at-most-ten}
-use Rattle.written.proofs.Placing.{put-same, put-front, put-length}
+use Rattle.text.specs.Decimal.{decimal}
+use Rattle.text.proofs.Decimals.{decimal-at-most-ten}
+use Rattle.text.proofs.Placing.{put-same, put-front, put-length}
 use Rattle.written.proofs.fields.put_number.Statement.{statement}
 use Rattle.written.proofs.fields.put_number.Tie as tie
 

@@ -1,7 +1,7 @@
 -- `written::fields::put_numbered` meets its contract.
 use native.Mathlib.Omega.{arith}
 use borrow.Author.Needs.{needs}
-use Rattle.written.proofs.Placing.{put-then}
+use Rattle.text.proofs.Placing.{put-then}
 use Rattle.written.proofs.fields.put_numbered.Statement.{statement}
 use Rattle.written.proofs.fields.put_numbered.Tie as tie
 

@@ -1,8 +1,8 @@
 -- `written::lines::put_agent` meets its contract.
 use native.Mathlib.Omega.{arith}
 use borrow.Author.Needs.{needs}
-use Rattle.written.proofs.Parts.{agent-parts}
-use Rattle.written.proofs.Placing.{put-then, put-same}
+use Rattle.text.proofs.RowParts.{agent-parts}
+use Rattle.text.proofs.Placing.{put-then, put-same}
 use Rattle.written.proofs.lines.put_agent.Statement.{statement}
 use Rattle.written.proofs.lines.put_agent.Tie as tie
 

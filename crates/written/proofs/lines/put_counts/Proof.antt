@@ -1,7 +1,7 @@
 -- `written::lines::put_counts` meets its contract.
 use native.Mathlib.Omega.{arith}
 use borrow.Author.Needs.{needs}
-use Rattle.written.proofs.Placing.{put-then}
+use Rattle.text.proofs.Placing.{put-then}
 use Rattle.written.proofs.lines.put_counts.Statement.{statement}
 use Rattle.written.proofs.lines.put_counts.Tie as tie
 

@@ -1,8 +1,8 @@
 -- `written::lines::put_entry` meets its contract.
 use native.Mathlib.Omega.{arith}
 use borrow.Author.Needs.{needs}
-use Rattle.written.proofs.Parts.{entry-parts}
-use Rattle.written.proofs.Placing.{put-then, put-same}
+use Rattle.text.proofs.RowParts.{entry-parts}
+use Rattle.text.proofs.Placing.{put-then, put-same}
 use Rattle.written.proofs.lines.put_entry.Statement.{statement}
 use Rattle.written.proofs.lines.put_entry.Tie as tie
 

@@ -1,8 +1,8 @@
 -- `written::lines::put_lock` meets its contract.
 use native.Mathlib.Omega.{arith}
 use borrow.Author.Needs.{needs}
-use Rattle.written.specs.Rows.{lockLine}
-use Rattle.written.proofs.Placing.{put-of}
+use Rattle.text.specs.Rows.{lockLine}
+use Rattle.text.proofs.Placing.{put-of}
 use Rattle.written.proofs.lines.put_lock.Statement.{statement}
 use Rattle.written.proofs.lines.put_lock.Tie as tie
 

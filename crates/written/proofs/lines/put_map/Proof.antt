@@ -1,8 +1,8 @@
 -- `written::lines::put_map` meets its contract.
 use native.Mathlib.Omega.{arith}
 use borrow.Author.Needs.{needs}
-use Rattle.written.specs.Rows.{mapPart}
-use Rattle.written.proofs.Placing.{put-of}
+use Rattle.text.specs.Rows.{mapPart}
+use Rattle.text.proofs.Placing.{put-of}
 use Rattle.written.proofs.lines.put_map.Statement.{statement}
 use Rattle.written.proofs.lines.put_map.Tie as tie
 

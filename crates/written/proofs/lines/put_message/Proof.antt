@@ -1,8 +1,8 @@
 -- `written::lines::put_message` meets its contract.
 use native.Mathlib.Omega.{arith}
 use borrow.Author.Needs.{needs}
-use Rattle.written.proofs.Parts.{message-parts}
-use Rattle.written.proofs.Placing.{put-then, put-same}
+use Rattle.text.proofs.RowParts.{message-parts}
+use Rattle.text.proofs.Placing.{put-then, put-same}
 use Rattle.written.proofs.lines.put_message.Statement.{statement}
 use Rattle.written.proofs.lines.put_message.Tie as tie
 

@@ -1,8 +1,8 @@
 -- `written::lines::put_phase` meets its contract.
 use native.Mathlib.Omega.{arith}
 use borrow.Author.Needs.{needs}
-use Rattle.written.specs.Rows.{phasePart}
-use Rattle.written.proofs.Placing.{put-of}
+use Rattle.text.specs.Rows.{phasePart}
+use Rattle.text.proofs.Placing.{put-of}
 use Rattle.written.proofs.lines.put_phase.Statement.{statement}
 use Rattle.written.proofs.lines.put_phase.Tie as tie
 

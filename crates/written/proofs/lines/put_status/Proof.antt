@@ -1,8 +1,8 @@
 -- `written::lines::put_status` meets its contract.
 use native.Mathlib.Omega.{arith}
 use borrow.Author.Needs.{needs}
-use Rattle.written.specs.Rows.{statusPart}
-use Rattle.written.proofs.Placing.{put-of}
+use Rattle.text.specs.Rows.{statusPart}
+use Rattle.text.proofs.Placing.{put-of}
 use Rattle.written.proofs.lines.put_status.Statement.{statement}
 use Rattle.written.proofs.lines.put_status.Tie as tie
 

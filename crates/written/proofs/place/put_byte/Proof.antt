@@ -5,7 +5,7 @@ use mathlib.Core.List.{[], _∷_}
 use lib.Seq.{sets}
 use denote.Ref.{now}
 use borrow.Author.Needs.{needs}
-use Rattle.written.proofs.Placing.{put-past, put-length}
+use Rattle.text.proofs.Placing.{put-past, put-length}
 use Rattle.written.proofs.place.put_byte.Statement.{statement}
 use Rattle.written.proofs.place.put_byte.Tie as tie
 

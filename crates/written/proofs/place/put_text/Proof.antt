@@ -3,7 +3,7 @@ use mathlib.Core.Path.{sym, _∙_}
 use native.Mathlib.Omega.{arith}
 use denote.Ref.{now}
 use borrow.Author.Needs.{needs}
-use Rattle.written.proofs.Placing.{put-past, place-within, place-past}
+use Rattle.text.proofs.Placing.{put-past, place-within, place-past}
 use Rattle.written.proofs.place.put_text.Statement.{statement}
 use Rattle.written.proofs.place.put_text.Tie as tie
 

@@ -7,8 +7,8 @@ use lib.ListN.{length, take, length-take}
 use lib.Seq.{take-suc, take-all}
 use denote.Ref.{now}
 use borrow.Author.Needs.{needs}
-use Rattle.written.specs.Placing.{Put}
-use Rattle.written.proofs.Placing.{put-none, put-then, put-same, put-length}
+use Rattle.text.specs.Placing.{Put}
+use Rattle.text.proofs.Placing.{put-none, put-then, put-same, put-length}
 use Rattle.written.proofs.place.put_word.Statement.{statement}
 use Rattle.written.proofs.place.put_word.Tie as tie
 

@@ -1,11 +1,11 @@
 -- `written::rows::put_agents` meets its contract.
 use Prim.Native.Nat.{_≤_, _+_, _*_, _-_, zero-le}
 use native.Mathlib.Omega.{arith}
-use Rattle.written.specs.Placing.{Put}
-use Rattle.written.specs.Text.{rowsBelow}
-use Rattle.written.specs.Rows.{agentRow}
-use Rattle.written.proofs.Parts.{rows-none, rows-more, rows-all}
-use Rattle.written.proofs.Placing.{put-length}
+use Rattle.text.specs.Placing.{Put}
+use Rattle.text.specs.Text.{rowsBelow}
+use Rattle.text.specs.Rows.{agentRow}
+use Rattle.text.proofs.RowParts.{rows-none, rows-more, rows-all}
+use Rattle.text.proofs.Placing.{put-length}
 use Rattle.written.proofs.rows.put_agents.Statement.{statement}
 use Rattle.written.proofs.rows.put_agents.Tie as tie
 

@@ -1,7 +1,7 @@
 -- `written::whole::put_table` meets its contract.
 use borrow.Author.Needs.{needs}
-use Rattle.written.proofs.Parts.{table-parts}
-use Rattle.written.proofs.Placing.{put-then, put-same}
+use Rattle.text.proofs.RowParts.{table-parts}
+use Rattle.text.proofs.Placing.{put-then, put-same}
 use Rattle.written.proofs.whole.put_table.Statement.{statement}
 use Rattle.written.proofs.whole.put_table.Tie as tie
 

@@ -6,8 +6,8 @@ use native.Mathlib.Omega.{arith}
 use denote.Ref.{now}
 use borrow.Author.Needs.{needs}
 use Rattle.records.specs.declared.Code.the-variants.{Done}
-use Rattle.written.specs.Writing.{Wrote}
-use Rattle.written.proofs.Fitted.{too-long, fits, at-front}
+use Rattle.text.specs.Writing.{Wrote}
+use Rattle.text.proofs.Fitted.{too-long, fits, at-front}
 use Rattle.written.proofs.whole.write_sound.Statement.{statement}
 use Rattle.written.proofs.whole.write_sound.Tie as tie
 

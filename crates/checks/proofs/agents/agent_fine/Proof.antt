@@ -1,0 +1,41 @@
+-- `soundness::agents::agent_fine` meets its contract.
+use borrow.Author.Needs.{needs}
+use Rattle.checks.proofs.agents.agent_fine.Statement.{statement}
+use Rattle.checks.proofs.agents.agent_fine.Tie as tie
+
+agent-sites-requires : tie.Need-agent-sites-requires
+agent-sites-requires c κs = search needs
+
+is-family-requires : tie.Need-is-family-requires
+is-family-requires c κs = search needs
+
+map-right-requires : tie.Need-map-right-requires
+map-right-requires c κs = search needs
+
+moves-locked-requires : tie.Need-moves-locked-requires
+moves-locked-requires c κs = search needs
+
+both-requires : tie.Need-both-requires
+both-requires c κs = search needs
+
+both-requires-2 : tie.Need-both-requires-2
+both-requires-2 c κs = search needs
+
+both-requires-3 : tie.Need-both-requires-3
+both-requires-3 c κs = search needs
+
+returns : tie.Need-returns
+returns c = rw (c .both3 .ensures, c .before .both2 .ensures, c .before .before .both .ensures, c .before .before .before .moves-locked .ensures, c .before .before .before .before .map-right .ensures, c .before .before .before .before .before .is-family .ensures, c .before .before .before .before .before .before .agent-sites .ensures)
+
+pub agent-fine-spec : {M : Type 1} → statement M
+agent-fine-spec =
+    tie.close
+    (tie.spec
+    agent-sites-requires
+    is-family-requires
+    map-right-requires
+    moves-locked-requires
+    both-requires
+    both-requires-2
+    both-requires-3
+    returns)

@@ -1,0 +1,33 @@
+-- `soundness::agents::is_empty_agent` meets its contract.
+use borrow.Author.Needs.{needs}
+use Rattle.checks.proofs.agents.is_empty_agent.Statement.{statement}
+use Rattle.checks.proofs.agents.is_empty_agent.Tie as tie
+
+phase-kind-requires : tie.Need-phase-kind-requires
+phase-kind-requires c κs = search needs
+
+is-mapped-requires : tie.Need-is-mapped-requires
+is-mapped-requires c κs = search needs
+
+opposite-requires : tie.Need-opposite-requires
+opposite-requires c κs = search needs
+
+both-requires : tie.Need-both-requires
+both-requires c κs = search needs
+
+both-requires-2 : tie.Need-both-requires-2
+both-requires-2 c κs = search needs
+
+returns : tie.Need-returns
+returns c = rw (c .both2 .ensures, c .before .both .ensures, c .before .before .before .opposite .ensures, c .before .before .before .before .is-mapped .ensures, c .before .before .before .before .before .phase-kind .ensures)
+
+pub is-empty-agent-spec : {M : Type 1} → statement M
+is-empty-agent-spec =
+    tie.close
+    (tie.spec
+    phase-kind-requires
+    is-mapped-requires
+    opposite-requires
+    both-requires
+    both-requires-2
+    returns)

@@ -1,0 +1,53 @@
+-- `soundness::agents::is_family` meets its contract.
+use borrow.Author.Needs.{needs}
+use Rattle.checks.proofs.agents.is_family.Statement.{statement}
+use Rattle.checks.proofs.agents.is_family.Tie as tie
+
+phase-kind-requires : tie.Need-phase-kind-requires
+phase-kind-requires c κs = search needs
+
+phase-kind-requires-2 : tie.Need-phase-kind-requires-2
+phase-kind-requires-2 c κs = search needs
+
+names-back-requires : tie.Need-names-back-requires
+names-back-requires c κs = search needs
+
+either-requires : tie.Need-either-requires
+either-requires c κs = search needs
+
+either-requires-2 : tie.Need-either-requires-2
+either-requires-2 c κs = search needs
+
+both-requires : tie.Need-both-requires
+both-requires c κs = search needs
+
+if-then-requires : tie.Need-if-then-requires
+if-then-requires c κs = search needs
+
+both-requires-2 : tie.Need-both-requires-2
+both-requires-2 c κs = search needs
+
+if-then-requires-2 : tie.Need-if-then-requires-2
+if-then-requires-2 c κs = search needs
+
+both-requires-3 : tie.Need-both-requires-3
+both-requires-3 c κs = search needs
+
+returns : tie.Need-returns
+returns c = rw (c .both3 .ensures, c .before .if-then2 .ensures, c .before .before .both2 .ensures, c .before .before .before .if-then .ensures, c .before .before .before .before .both .ensures, c .before .before .before .before .before .either2 .ensures, c .before .before .before .before .before .before .either .ensures, c .before .before .before .before .before .before .before .names-back .ensures, c .before .before .before .before .before .before .before .before .phase-kind2 .ensures, c .before .before .before .before .before .before .before .before .before .phase-kind .ensures)
+
+pub is-family-spec : {M : Type 1} → statement M
+is-family-spec =
+    tie.close
+    (tie.spec
+    phase-kind-requires
+    phase-kind-requires-2
+    names-back-requires
+    either-requires
+    either-requires-2
+    both-requires
+    if-then-requires
+    both-requires-2
+    if-then-requires-2
+    both-requires-3
+    returns)

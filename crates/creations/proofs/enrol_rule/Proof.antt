@@ -1,0 +1,84 @@
+-- `enrol_rule` meets its contract: each return goes by the tests that led to it.
+use borrow.Author.Tests.{not-true, not-false, lt-ltb, le-ltb, eq-eqb, ne-eqb}
+use Rattle.rules.proofs.CreationsDone.{enrol-done}
+use Rattle.rules.specs.Steps.{enrolRule}
+use borrow.Author.Needs.{needs}
+use Rattle.creations.proofs.enrol_rule.Statement.{statement}
+use Rattle.creations.proofs.enrol_rule.Tie as tie
+
+refused-requires : tie.Need-refused-requires
+refused-requires c κs = search needs
+
+returns : tie.Need-returns
+unfolding enrolRule
+returns c = simp (not-true (c .before .before .args .sound) (c .before .if1 .taken), c .refused .ensures)
+
+refused-requires-2 : tie.Need-refused-requires-2
+refused-requires-2 c κs = search needs
+
+returns-2 : tie.Need-returns-2
+unfolding enrolRule
+returns-2 c = simp (not-false (c .before .before .before .before .args .sound) (c .before .before .before .if1 .left), le-ltb _ _ (c .before .if2 .taken), c .refused2 .ensures)
+
+agent-in-requires : tie.Need-agent-in-requires
+agent-in-requires c κs = search needs
+
+phase-kind-requires : tie.Need-phase-kind-requires
+phase-kind-requires c κs = search needs
+
+refused-requires-3 : tie.Need-refused-requires-3
+refused-requires-3 c κs = search needs
+
+returns-3 : tie.Need-returns-3
+unfolding enrolRule
+returns-3 c = simp (not-false (c .before .before .before .before .before .before .before .before .args .sound) (c .before .before .before .before .before .before .before .if1 .left), lt-ltb _ _ (c .before .before .before .before .before .if2 .left), ← c .before .before .before .agent-in .ensures, ← c .before .before .phase-kind .ensures, ne-eqb _ _ (c .before .if3 .taken), c .refused3 .ensures)
+
+is-unheld-requires : tie.Need-is-unheld-requires
+is-unheld-requires c κs = search needs
+
+refused-requires-4 : tie.Need-refused-requires-4
+refused-requires-4 c κs = search needs
+
+returns-4 : tie.Need-returns-4
+unfolding enrolRule
+returns-4 c = simp (not-false (c .before .before .before .before .before .before .before .before .before .before .before .args .sound) (c .before .before .before .before .before .before .before .before .before .before .if1 .left), lt-ltb _ _ (c .before .before .before .before .before .before .before .before .if2 .left), ← c .before .before .before .before .before .before .agent-in .ensures, ← c .before .before .before .before .before .phase-kind .ensures, eq-eqb _ _ (c .before .before .before .before .if3 .left), ← c .before .before .is-unheld .ensures, not-true (c .before .before .is-unheld .result) (c .before .if4 .taken), c .refused4 .ensures)
+
+peer-of-requires : tie.Need-peer-of-requires
+peer-of-requires c κs = search needs
+
+with-phase-requires : tie.Need-with-phase-requires
+with-phase-requires c κs = search needs
+
+mapped-here-requires : tie.Need-mapped-here-requires
+mapped-here-requires c κs = search needs
+
+agent-put-requires : tie.Need-agent-put-requires
+agent-put-requires c κs = search needs
+
+done-requires : tie.Need-done-requires
+done-requires c κs = search needs
+
+returns-5 : tie.Need-returns-5
+returns-5 c = enrol-done (c .before .before .before .before .before .before .before .before .before .before .before .before .before .before .before .args .t) (c .before .before .before .before .before .before .before .before .before .before .before .before .before .before .before .args .b) (not-false (c .before .before .before .before .before .before .before .before .before .before .before .before .before .before .before .args .sound) (c .before .before .before .before .before .before .before .before .before .before .before .before .before .before .if1 .left)) (c .before .before .before .before .before .before .before .before .before .before .before .before .if2 .left) (c .before .before .before .before .before .before .before .before .before .before .agent-in .ensures) (c .before .before .before .before .before .before .before .before .before .phase-kind .ensures) (c .before .before .before .before .before .before .before .before .if3 .left) (c .before .before .before .before .before .before .is-unheld .ensures) (not-false (c .before .before .before .before .before .before .is-unheld .result) (c .before .before .before .before .before .if4 .left)) (c .before .before .before .before .peer-of .ensures) (c .before .before .before .with-phase .ensures) (c .before .before .mapped-here .ensures) (c .before .agent-put .ensures) (c .done .ensures)
+
+pub enrol-rule-spec : {M : Type 1} → statement M
+enrol-rule-spec =
+    tie.close
+    (tie.spec
+    refused-requires
+    returns
+    refused-requires-2
+    returns-2
+    agent-in-requires
+    phase-kind-requires
+    refused-requires-3
+    returns-3
+    is-unheld-requires
+    refused-requires-4
+    returns-4
+    peer-of-requires
+    with-phase-requires
+    mapped-here-requires
+    agent-put-requires
+    done-requires
+    returns-5)

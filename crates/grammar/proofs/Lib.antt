@@ -1,0 +1,5 @@
+pub mod Digits
+pub mod LineEnds
+pub mod LineKinds
+pub mod NumberParts
+pub mod Words

@@ -1,0 +1,4 @@
+pub mod Finding
+pub mod Grammar
+pub mod Lines
+pub mod LineParts

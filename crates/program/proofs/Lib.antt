@@ -1,0 +1,4 @@
+pub mod Outputs
+pub mod Runs
+pub mod SessionS
+pub mod Turns

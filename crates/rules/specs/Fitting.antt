@@ -1,0 +1,13 @@
+-- What the rules about messages lean on where the table has passed its test: the counts keep within the arrays.
+use Prim.Native.Nat.{_≤_}
+use mathlib.Core.Path.{_≡_}
+use mathlib.Core.Bool.{Bool, true}
+use Rattle.rules.specs.declared.State.{State}
+use Rattle.rules.specs.Holding.{mostMessages}
+
+pub record CountsFit (t : State) : Type 0 where
+  pub messages : t .messages ≤ mostMessages
+  pub handed : t .handed ≤ mostMessages
+
+abbrev pub FitIfSound : Bool → State → Type 0
+FitIfSound sound t = sound ≡ true → CountsFit t

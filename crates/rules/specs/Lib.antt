@@ -1,0 +1,9 @@
+pub mod Tests
+pub mod Holding
+pub mod Soundness
+pub mod SoundTest
+pub mod Fitting
+pub mod Answers
+pub mod Steps
+pub mod Sessions
+pub mod Readers

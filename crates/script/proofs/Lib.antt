@@ -1,9 +1,0 @@
-pub mod Digits
-pub mod LineEnds
-pub mod LineKinds
-pub mod Outputs
-pub mod Parts
-pub mod Runs
-pub mod SessionS
-pub mod Turns
-pub mod Words

@@ -1,0 +1,12 @@
+pub mod Placing
+pub mod Each
+pub mod Decimals
+pub mod RowParts
+pub mod Fitted
+pub mod Refused
+pub mod Plain
+pub mod LineCount
+pub mod Splitting
+pub mod ReadBack
+pub mod Different
+pub mod TextLength
