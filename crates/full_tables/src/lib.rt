@@ -1,13 +1,13 @@
-// Tables filled to their limits by steps, for the programs that run at the limits. What these functions promise is what the steps do.
+// Tables filled by steps, for the programs that run at the limits. What these functions promise is what the steps do.
 use records::AgentNo;
 use records::MailNo;
 use table::Table;
 
-// All 64 agents.
-pub fn with_agents(first: Table) -> Table {
+// Fills a table of one agent up to `count` agents, each made by agent 0 and free.
+pub fn with_agents(first: Table, count: u32) -> Table {
     let mut t = first;
     let mut child: u32 = 1;
-    while child < 64 {
+    while child < count {
         let spawned = t.spawn(AgentNo(0)).table;
         let enrolled = spawned.enrol(AgentNo(child)).table;
         t = enrolled.greet(AgentNo(child)).table;
@@ -16,12 +16,14 @@ pub fn with_agents(first: Table) -> Table {
     t
 }
 
-// All 512 messages, closed.
-pub fn with_messages(first: Table) -> Table {
+// Fills a full table of agents up to `count` messages, each closed: one from every agent in turn, to the next one.
+pub fn with_messages(first: Table, count: u32) -> Table {
     let mut t = first;
     let mut m: u32 = 0;
-    while m < 512 {
-        let sent = t.send(AgentNo(m % 64), m / 64 + 1, AgentNo((m + 1) % 64), m)
+    while m < count {
+        let from = m % Table::MOST_AGENTS;
+        let to = (from + 1) % Table::MOST_AGENTS;
+        let sent = t.send(AgentNo(from), m / Table::MOST_AGENTS + 1, AgentNo(to), m)
             .table;
         let out = sent.forward(MailNo(m)).table;
         let handed = out.hand(MailNo(m)).table;
@@ -31,11 +33,11 @@ pub fn with_messages(first: Table) -> Table {
     t
 }
 
-// All 512 messages of one agent to itself, queued.
-pub fn with_own_messages(first: Table) -> Table {
+// Fills a table up to `count` messages of agent 0 to itself, queued.
+pub fn with_own_messages(first: Table, count: u32) -> Table {
     let mut t = first;
     let mut m: u32 = 0;
-    while m < 512 {
+    while m < count {
         t = t.send(AgentNo(0), m + 1, AgentNo(0), m).table;
         m += 1;
     }

@@ -1,7 +1,7 @@
 // Reads a script from standard input and prints what it comes to.
-use console::input_room;
-use console::print;
 use libc::STDIN_FILENO;
+use script_io::input_room;
+use script_io::print;
 
 fn main() {
     let mut input = input_room();

@@ -4,6 +4,9 @@
 use records::Code;
 use table::Table;
 
+// A script has at most so many bytes.
+pub const MOST_INPUT: usize = 65536;
+
 // What a script has come to: whether an opening was Done, and the table, which is the one that stands for none until then.
 pub struct Desk {
     pub opened: bool,

@@ -3,12 +3,13 @@ ghost use Prim.Native.Nat.{_≤_};
 ghost use mathlib.Core.Path.{_≡_};
 ghost use lib.ListN.{length};
 ghost use Rattle.text.specs.Placing.{PutWithin};
-ghost use Rattle.program.specs.Program.{noDesk, answerLine};
+ghost use Rattle.program.specs.Program.{noDesk, answerLine, mostInput};
 ghost use Rattle.grammar.specs.Lines.{linesOf};
 ghost use Rattle.program.specs.Running.{Came, from, atFront, tableBehind, runEnd, runLines, runOf};
 use crate::taking::take;
 use lines::read_line;
 use program::Desk;
+use program::MOST_INPUT;
 use records::Code;
 use records::codes::code_number;
 use scanning::finding::first_line;
@@ -16,8 +17,6 @@ use scanning::finding::line_taken;
 use table::Table;
 use written::answers::answer_line;
 use written::place::put_text;
-
-const MOST_INPUT: usize = 65536;
 
 // Before any opening was Done.
 fn no_desk() -> Desk
@@ -64,7 +63,7 @@ fn put_end(output: &mut [u8], at: usize, desk: Desk) -> usize
 
 // An answer for each line, and then the end.
 fn run_lines(input: &[u8], output: &mut [u8]) -> usize
-    requires { ⌜ length (now input) ≤ 65536 ⌝ }
+    requires { ⌜ length (now input) ≤ mostInput ⌝ }
     ensures { λ r. ⌜ Came (runLines (atFront (now (output .entry))) noDesk 1 (linesOf (now (input .entry)))) r (now (output .exit)) ⌝ }
 {
     let mut rest = input;

@@ -1,7 +1,7 @@
 // Scripts that are wrong in one way or another, each printed under a heading with what it comes to.
-use console::input_room;
-use console::print;
 use libc::STDOUT_FILENO;
+use script_io::input_room;
+use script_io::print;
 
 fn report(name: &[u8], script: &[u8]) {
     io::write_all(STDOUT_FILENO, name);

@@ -36,7 +36,8 @@ fn main() {
     io::read_full(STDIN_FILENO, &mut input);
     let mut t = Table::open(3).table;
     if input[0] == b'f' {
-        t = filling::with_messages(filling::with_agents(t));
+        let peopled = full_tables::with_agents(t, Table::MOST_AGENTS);
+        t = full_tables::with_messages(peopled, Table::MOST_MESSAGES);
     }
     let digit = digit_of(input[1]) % 10;
     t = rounds(t, digit * 20000);

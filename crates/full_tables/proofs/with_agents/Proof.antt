@@ -1,14 +1,14 @@
--- `filling::with_agents` meets its contract.
+-- `full_tables::with_agents` meets its contract.
 use Prim.Native.Nat.{_≤_, _-_}
 use borrow.Author.Needs.{needs}
 use Rattle.full_tables.proofs.with_agents.Statement.{statement}
 use Rattle.full_tables.proofs.with_agents.Tie as tie
 
 abbrev Inv-loop : tie.InvT-loop
-Inv-loop t₀ child₀ t child = child ≤ 64
+Inv-loop count t₀ child₀ t child = 0 ≤ child
 
 abbrev μ-loop : tie.MeasureT-loop
-μ-loop t₀ child₀ t child = 64 - child
+μ-loop count t₀ child₀ t child = count - child
 
 loop-holds : tie.Need-loop-holds Inv-loop μ-loop
 loop-holds c = search needs

@@ -1,23 +1,23 @@
--- `filling::with_messages` meets its contract.
+-- `full_tables::with_messages` meets its contract.
 use Prim.Native.Nat.{_≤_, _-_}
 use borrow.Author.Needs.{needs}
 use Rattle.full_tables.proofs.with_messages.Statement.{statement}
 use Rattle.full_tables.proofs.with_messages.Tie as tie
 
 abbrev Inv-loop : tie.InvT-loop
-Inv-loop t₀ m₀ t m = m ≤ 512
+Inv-loop count t₀ m₀ t m = 0 ≤ m
 
 abbrev μ-loop : tie.MeasureT-loop
-μ-loop t₀ m₀ t m = 512 - m
+μ-loop count t₀ m₀ t m = count - m
 
 loop-holds : tie.Need-loop-holds Inv-loop μ-loop
 loop-holds c = search needs
 
+add-to : tie.Need-add-to Inv-loop μ-loop
+add-to c = search needs
+
 add-send : tie.Need-add-send Inv-loop μ-loop
 add-send c = search needs
-
-add-t13 : tie.Need-add-t13 Inv-loop μ-loop
-add-t13 c = search needs
 
 send-requires : tie.Need-send-requires Inv-loop μ-loop
 send-requires c κs = search needs
@@ -50,8 +50,8 @@ with-messages-spec =
     Inv-loop
     μ-loop
     loop-holds
+    add-to
     add-send
-    add-t13
     send-requires
     forward-requires
     hand-requires

@@ -1,14 +1,14 @@
--- `filling::with_own_messages` meets its contract.
+-- `full_tables::with_own_messages` meets its contract.
 use Prim.Native.Nat.{_≤_, _-_}
 use borrow.Author.Needs.{needs}
 use Rattle.full_tables.proofs.with_own_messages.Statement.{statement}
 use Rattle.full_tables.proofs.with_own_messages.Tie as tie
 
 abbrev Inv-loop : tie.InvT-loop
-Inv-loop t₀ m₀ t m = m ≤ 512
+Inv-loop count t₀ m₀ t m = 0 ≤ m
 
 abbrev μ-loop : tie.MeasureT-loop
-μ-loop t₀ m₀ t m = 512 - m
+μ-loop count t₀ m₀ t m = count - m
 
 loop-holds : tie.Need-loop-holds Inv-loop μ-loop
 loop-holds c = search needs

@@ -1,4 +1,4 @@
--- `console::fill` meets its contract.
+-- `script_io::fill` meets its contract.
 use borrow.Author.Needs.{needs}
 use native.Mathlib.Omega.{arith}
 use Rattle.output.proofs.Room.{run-leaves}

@@ -1,4 +1,4 @@
--- `console::input_room` meets its contract.
+-- `script_io::input_room` meets its contract.
 use Prim.Native.Nat.{ℕ}
 use mathlib.Core.Path.{refl, sym}
 use lib.ListN.{length-replicate}

@@ -1,4 +1,4 @@
--- `console::output_room` meets its contract.
+-- `script_io::output_room` meets its contract.
 use Prim.Native.Nat.{ℕ}
 use mathlib.Core.Path.{sym}
 use lib.ListN.{length-replicate}

@@ -1,4 +1,4 @@
--- `console::write_output` meets its contract.
+-- `script_io::write_output` meets its contract.
 use mathlib.Core.Path.{sym}
 use lib.Seq.{length-take-le}
 use borrow.Author.Needs.{needs}
