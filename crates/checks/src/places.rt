@@ -2,19 +2,20 @@
 // whoever reads there tests the number itself as well.
 ghost use mathlib.Core.Path.{_≡_};
 ghost use Prim.Native.Nat.{_<_};
+ghost use Rattle.records.specs.Limits.{mostAgents, mostMessages};
 use records::AgentNo;
 use records::MailNo;
 use records::limits::MOST_AGENTS;
 use records::limits::MOST_MESSAGES;
 
 pub fn agent_place(a: AgentNo) -> usize
-    ensures { λ r. ⌜ (r < 64) × (a .0 < 64 → r ≡ a .0) ⌝ }
+    ensures { λ r. ⌜ (r < mostAgents) × (a .0 < mostAgents → r ≡ a .0) ⌝ }
 {
     (a.0 % MOST_AGENTS) as usize
 }
 
 pub fn mail_place(m: MailNo) -> usize
-    ensures { λ r. ⌜ (r < 512) × (m .0 < 512 → r ≡ m .0) ⌝ }
+    ensures { λ r. ⌜ (r < mostMessages) × (m .0 < mostMessages → r ≡ m .0) ⌝ }
 {
     (m.0 % MOST_MESSAGES) as usize
 }

@@ -14,7 +14,8 @@ use Rattle.records.specs.declared.Phase.the-variants.{Free, Spawning, Born, Enr
 use Rattle.records.specs.Numbers.{agentNo}
 use Rattle.records.specs.Agents.{bornOf}
 use Rattle.rules.specs.declared.State.{State}
-use Rattle.rules.specs.Holding.{mostAgents, IsAgent, siteOf, phaseOf, nextAgent, withNewAgent}
+use Rattle.records.specs.Limits.{mostAgents}
+use Rattle.rules.specs.Holding.{IsAgent, siteOf, phaseOf, nextAgent, withNewAgent}
 use Rattle.rules.specs.Steps.{toPhase}
 use Rattle.preservation.proofs.Places.{first, second, neither}
 use Rattle.preservation.proofs.Locking.{never}

@@ -14,7 +14,8 @@ use Rattle.records.specs.declared.Message.{Message}
 use Rattle.records.specs.Numbers.{mailNo}
 use Rattle.records.specs.Messages.{itemOf}
 use Rattle.rules.specs.declared.State.{State}
-use Rattle.rules.specs.Holding.{mostMessages, IsAgent, IsMessage, phaseOf, messageAt, nextMessage, withNewMessage}
+use Rattle.records.specs.Limits.{mostMessages}
+use Rattle.rules.specs.Holding.{IsAgent, IsMessage, phaseOf, messageAt, nextMessage, withNewMessage}
 use Rattle.rules.specs.Steps.{sentBy, newMessage}
 use Rattle.preservation.proofs.Places.{Seen, changed, kept, seen-message}
 use Rattle.preservation.proofs.Families.{ChildOf}

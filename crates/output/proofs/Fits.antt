@@ -11,7 +11,8 @@ use Rattle.records.specs.declared.Code.the-variants.{BadCount, BadLine, NotOpen
 use Rattle.rules.specs.declared.State.{State}
 use Rattle.rules.specs.declared.Reply.{Reply}
 use Rattle.rules.specs.declared.Step.{Step}
-use Rattle.rules.specs.Holding.{Shaped, mostSites, mostMessages, messageAt, noState, nextMessage, withNewMessage}
+use Rattle.records.specs.Limits.{mostSites, mostMessages}
+use Rattle.rules.specs.Holding.{Shaped, messageAt, noState, nextMessage, withNewMessage}
 use Rattle.rules.specs.Soundness.{Sound}
 use Rattle.rules.specs.Answers.{done, unless}
 use Rattle.rules.specs.Steps.{opened, newMessage, openOf, stepOf}

@@ -10,7 +10,8 @@ use borrow.Author.Tests.{le-leb}
 use Rattle.records.specs.declared.Code.the-variants.{Done, BadCount}
 use Rattle.records.specs.Codes.{codeNumber}
 use Rattle.rules.specs.declared.State.{State}
-use Rattle.rules.specs.Holding.{mostSites, noState}
+use Rattle.records.specs.Limits.{mostSites}
+use Rattle.rules.specs.Holding.{noState}
 use Rattle.rules.specs.Answers.{done, unless}
 use Rattle.rules.specs.Steps.{opened, openOf, stepOf}
 use Rattle.table.specs.Face.{tableOf, openTable, stepTable}

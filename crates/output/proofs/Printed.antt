@@ -8,7 +8,8 @@ use lib.ListN.{length, drop}
 use lib.Dec.{ltb, leb, eqb}
 use Rattle.records.specs.declared.Code.the-variants.{Done, BadCount}
 use Rattle.records.specs.Codes.{codeNumber}
-use Rattle.rules.specs.Holding.{Shaped, mostSites, noState}
+use Rattle.records.specs.Limits.{mostSites}
+use Rattle.rules.specs.Holding.{Shaped, noState}
 use Rattle.rules.specs.Answers.{done, unless}
 use Rattle.rules.specs.Soundness.{Sound}
 use Rattle.rules.specs.Steps.{opened, openOf}

@@ -19,7 +19,8 @@ use Rattle.records.specs.Agents.{emptyAgent, isMoving, withPhase}
 use Rattle.records.proofs.ReaderLaws.{is-moving}
 use Rattle.rules.specs.Tests.{agentIn}
 use Rattle.rules.specs.declared.State.{State}
-use Rattle.rules.specs.Holding.{mostAgents, IsAgent, IsMessage, agentAt, siteOf, messageAt, statusOf, withAgents, withHeld}
+use Rattle.records.specs.Limits.{mostAgents}
+use Rattle.rules.specs.Holding.{IsAgent, IsMessage, agentAt, siteOf, messageAt, statusOf, withAgents, withHeld}
 use Rattle.rules.specs.Soundness.{Sound, FamiliesMatch, LockRight, Child, Moving}
 use Rattle.preservation.proofs.Families.{ChildOf}
 use Rattle.preservation.proofs.Locking.{never}

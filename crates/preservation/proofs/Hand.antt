@@ -14,7 +14,8 @@ use Rattle.records.specs.Numbers.{mailNo, sameMail}
 use Rattle.records.specs.Messages.{isDelivered, emptyEntry}
 use Rattle.records.specs.Places.{countBelow}
 use Rattle.rules.specs.declared.State.{State}
-use Rattle.rules.specs.Holding.{mostMessages, IsMessage, statusOf, logAt, withStatus, withLogged}
+use Rattle.records.specs.Limits.{mostMessages}
+use Rattle.rules.specs.Holding.{IsMessage, statusOf, logAt, withStatus, withLogged}
 use Rattle.rules.specs.Soundness.{Delivered, timesLogged}
 use Rattle.records.proofs.PlaceLaws.{count-alike, count-hit, count-miss}
 use Rattle.records.proofs.ReaderLaws.{delivered-is, is-delivered}

@@ -9,7 +9,8 @@ use Rattle.records.specs.declared.Held.{Held}
 use Rattle.records.specs.Numbers.{mailNo}
 use Rattle.records.specs.Messages.{emptyMessage, emptyEntry}
 use Rattle.rules.specs.declared.State.{State}
-use Rattle.rules.specs.Holding.{mostMessages, IsSite, messageAt, logAt, withHeld, withMessages, withLog}
+use Rattle.records.specs.Limits.{mostMessages}
+use Rattle.rules.specs.Holding.{IsSite, messageAt, logAt, withHeld, withMessages, withLog}
 use Rattle.rules.specs.Soundness.{Sound, LockRight, OutToAddressee, NoneLost, PartiesThere, NumbersRun, LogExact}
 
 -- the lists that hold messages and log, and their counts

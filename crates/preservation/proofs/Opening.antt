@@ -5,7 +5,8 @@ use mathlib.Core.Bool.{Bool, true, false, _&&_}
 use lib.Dec.{ltb, leb}
 use borrow.Author.Tests.{ltb-true, leb-true}
 use Rattle.records.specs.declared.Code.the-variants.{Done, BadCount}
-use Rattle.rules.specs.Holding.{Shaped, mostSites, noState}
+use Rattle.records.specs.Limits.{mostSites}
+use Rattle.rules.specs.Holding.{Shaped, noState}
 use Rattle.rules.specs.Answers.{unless, done}
 use Rattle.rules.specs.Steps.{opened, openOf}
 use Rattle.rules.proofs.Openings.{opened-sound}

@@ -25,7 +25,8 @@ use Rattle.rules.specs.declared.State.{State}
 use Rattle.rules.specs.declared.Reply.{Reply}
 use Rattle.rules.specs.declared.Step.{Step}
 use Rattle.rules.specs.declared.Step.the-variants.{Spawn, Ask, Send, Enrol, Greet, Grant, Leap, Book, Settle, Forward, Hand, Close}
-use Rattle.rules.specs.Holding.{mostAgents, mostMessages, IsAgent, IsSite, IsMessage, isAgent, agentAt, siteOf, phaseOf, mapOf, messageAt, statusOf, lockOf, withAgent, nextAgent, withNewAgent, withLock, withStatus, withNewMessage, withLogged}
+use Rattle.records.specs.Limits.{mostAgents, mostMessages}
+use Rattle.rules.specs.Holding.{IsAgent, IsSite, IsMessage, isAgent, agentAt, siteOf, phaseOf, mapOf, messageAt, statusOf, lockOf, withAgent, nextAgent, withNewAgent, withLock, withStatus, withNewMessage, withLogged}
 use Rattle.rules.specs.SoundTest.{soundTest}
 use Rattle.rules.specs.Answers.{done, repeated, unless}
 use Rattle.rules.specs.Steps.{toPhase, sentBy, newMessage, takeNew, findSent, sameLetter, compareSent, retry, addresseeOf, ruleOf, stepOf}

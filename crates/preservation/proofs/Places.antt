@@ -17,7 +17,8 @@ use Rattle.records.specs.Agents.{emptyAgent}
 use Rattle.records.specs.Messages.{standing, emptyEntry}
 use Rattle.rules.specs.Tests.{agentIn}
 use Rattle.rules.specs.declared.State.{State}
-use Rattle.rules.specs.Holding.{Shaped, mostMessages, messageAt, logAt, withStatus, nextMessage, withNewMessage, withLogged}
+use Rattle.records.specs.Limits.{mostMessages}
+use Rattle.rules.specs.Holding.{Shaped, messageAt, logAt, withStatus, nextMessage, withNewMessage, withLogged}
 
 -- whether i is the place changed, and what is read at i now: y where it is, and what was read before where it is not
 pub data Seen {K A : Type 0} (i place : K) (y before now : A) : Type 0 where

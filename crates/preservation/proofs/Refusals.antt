@@ -11,7 +11,8 @@ use Rattle.records.proofs.CodeLaws.{not-refused, not-repeated}
 use Rattle.rules.specs.declared.State.{State}
 use Rattle.rules.specs.declared.Reply.{Reply}
 use Rattle.rules.specs.declared.Step.{Step}
-use Rattle.rules.specs.Holding.{mostSites, noState}
+use Rattle.records.specs.Limits.{mostSites}
+use Rattle.rules.specs.Holding.{noState}
 use Rattle.rules.specs.Answers.{done, unless}
 use Rattle.rules.specs.Steps.{opened, openOf, stepOf}
 use Rattle.preservation.proofs.Outcomes.{Went, spawned, asked, sent, enrolled, greeted, granted, leapt, booked, settled, forwarded, handed, lost, closed, Outcome, stayed, went, step-outcome}

@@ -14,7 +14,8 @@ use Rattle.records.specs.declared.Status.the-variants.{Queued, Out, Lost}
 use Rattle.records.specs.Numbers.{mailNo, sameAgent}
 use Rattle.records.specs.Messages.{emptyMessage, isUnderWay, isDelivered, standing}
 use Rattle.rules.specs.declared.State.{State}
-use Rattle.rules.specs.Holding.{mostMessages, IsAgent, IsMessage, phaseOf, siteOf, messageAt, statusOf, logAt, nextMessage, withNewMessage}
+use Rattle.records.specs.Limits.{mostMessages}
+use Rattle.rules.specs.Holding.{IsAgent, IsMessage, phaseOf, siteOf, messageAt, statusOf, logAt, nextMessage, withNewMessage}
 use Rattle.rules.specs.Soundness.{UnderWay, Delivered, sentBefore}
 use Rattle.rules.specs.Steps.{sentBy, newMessage}
 use Rattle.records.proofs.PlaceLaws.{count-alike}

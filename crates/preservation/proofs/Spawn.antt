@@ -10,7 +10,8 @@ use Rattle.records.specs.declared.Phase.the-variants.{Free, Spawning, Born}
 use Rattle.records.specs.Numbers.{agentNo}
 use Rattle.records.specs.Agents.{bornOf, emptyAgent, isMoving, withPhase}
 use Rattle.rules.specs.declared.State.{State}
-use Rattle.rules.specs.Holding.{mostAgents, nextAgent, withNewAgent, IsAgent, agentAt, siteOf, phaseOf, messageAt}
+use Rattle.records.specs.Limits.{mostAgents}
+use Rattle.rules.specs.Holding.{nextAgent, withNewAgent, IsAgent, agentAt, siteOf, phaseOf, messageAt}
 use Rattle.rules.specs.Soundness.{Child}
 use Rattle.rules.specs.Steps.{toPhase}
 use Rattle.preservation.proofs.Places.{SeenTwo, first, second, neither, seen-two}

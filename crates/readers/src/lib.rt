@@ -2,6 +2,7 @@
 ghost use mathlib.Core.Path.{_≡_};
 ghost use Prim.Native.Nat.{min};
 ghost use lib.ListN.{getD, take};
+ghost use Rattle.records.specs.Limits.{mostMessages};
 ghost use Rattle.records.specs.declared.Status.the-variants.{Queued};
 ghost use Rattle.records.specs.Messages.{standing};
 ghost use Rattle.rules.specs.Readers.{readAgent, readMessage, itemAt, entries, readInbox};
@@ -52,7 +53,7 @@ fn stand_in(status: [Stand; MESSAGE_ROOM], m: MailNo) -> Stand
 
 // How much of the log's array is read where it has this length.
 fn log_length(handed: u32) -> u32
-    ensures { λ r. ⌜ r ≡ min handed 512 ⌝ }
+    ensures { λ r. ⌜ r ≡ min handed mostMessages ⌝ }
 {
     if handed < MOST_MESSAGES {
         handed

@@ -4,3 +4,4 @@ pub mod Messages
 pub mod Locks
 pub mod Codes
 pub mod Places
+pub mod Limits

@@ -15,7 +15,8 @@ use Rattle.rules.specs.Tests.{numbersRun, logRuns, noCounts, noMarks}
 use Rattle.rules.proofs.NumberLaws.{numbers-each, each-numbers}
 use Rattle.rules.proofs.LogLaws.{bit, Names, Holds, log-holds, holds-log}
 use Rattle.rules.specs.declared.State.{State}
-use Rattle.rules.specs.Holding.{mostAgents, mostMessages, IsMessage, messageAt, statusOf, logAt}
+use Rattle.records.specs.Limits.{mostAgents, mostMessages}
+use Rattle.rules.specs.Holding.{IsMessage, messageAt, statusOf, logAt}
 use Rattle.rules.specs.Soundness.{NumbersRun, LogExact, timesLogged}
 
 module _ (t : State) (sendersFit : (m : MailNo) → IsMessage t m → messageAt t m .sender .0 < mostAgents) where

@@ -15,7 +15,8 @@ use Rattle.records.specs.Numbers.{sameSite}
 use Rattle.records.specs.Messages.{travelsTo}
 use Rattle.rules.specs.declared.State.{State}
 use Rattle.rules.specs.declared.Step.the-variants.{Spawn, Ask, Enrol, Greet, Grant, Leap, Book, Settle, Forward, Hand, Close}
-use Rattle.rules.specs.Holding.{mostAgents, siteOf, phaseOf, mapOf, statusOf, lockOf, withStatus, withLogged}
+use Rattle.records.specs.Limits.{mostAgents}
+use Rattle.rules.specs.Holding.{siteOf, phaseOf, mapOf, statusOf, lockOf, withStatus, withLogged}
 use Rattle.rules.specs.Answers.{done}
 use Rattle.rules.specs.Soundness.{Sound}
 use Rattle.rules.specs.Steps.{addresseeOf, stepOf}

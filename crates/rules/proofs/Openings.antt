@@ -8,7 +8,8 @@ use mathlib.Core.Bool.{Bool, true, false, _&&_}
 use borrow.Author.Tests.{leb-true, le-leb, ltb-true}
 use Rattle.records.specs.declared.Code.the-variants.{BadCount}
 use Rattle.records.proofs.FlagLaws.{and-left, and-right, and-both, not-cases}
-use Rattle.rules.specs.Holding.{mostSites, noState}
+use Rattle.records.specs.Limits.{mostSites}
+use Rattle.rules.specs.Holding.{noState}
 use Rattle.rules.specs.Answers.{done, unless}
 use Rattle.rules.specs.Soundness.{Sound}
 use Rattle.rules.specs.SoundTest.{soundTest}

@@ -18,7 +18,8 @@ use Rattle.records.proofs.ReaderLaws.{same-agent, agent-same}
 use Rattle.rules.specs.declared.State.{State}
 use Rattle.rules.specs.declared.Reply.{Reply}
 use Rattle.rules.specs.declared.Step.the-variants.{Send}
-use Rattle.rules.specs.Holding.{mostMessages, messageAt, withNewMessage}
+use Rattle.records.specs.Limits.{mostMessages}
+use Rattle.rules.specs.Holding.{messageAt, withNewMessage}
 use Rattle.rules.specs.Answers.{done, repeated, unless}
 use Rattle.rules.specs.Soundness.{Child, Sound}
 use Rattle.rules.specs.Steps.{sentBy, newMessage, takeNew, sameLetter, compareSent, retry, byNumber, sendRule, stepOf}

@@ -3,7 +3,7 @@ use Prim.Native.Nat.{_≤_}
 use mathlib.Core.Path.{_≡_}
 use mathlib.Core.Bool.{Bool, true}
 use Rattle.rules.specs.declared.State.{State}
-use Rattle.rules.specs.Holding.{mostMessages}
+use Rattle.records.specs.Limits.{mostMessages}
 
 pub record CountsFit (t : State) : Type 0 where
   pub messages : t .messages ≤ mostMessages

@@ -19,22 +19,13 @@ use Rattle.records.specs.declared.Stand.{Stand}
 use Rattle.records.specs.declared.Held.{Held}
 use Rattle.records.specs.declared.Lock.{Lock}
 use Rattle.records.specs.declared.Lock.the-variants.{Unheld}
+use Rattle.records.specs.Limits.{mostAgents, mostMessages}
 use Rattle.records.specs.Numbers.{agentNo, mailNo, sameAgent}
 use Rattle.records.specs.Agents.{emptyAgent}
 use Rattle.records.specs.Messages.{standing, emptyEntry, itemOf}
 use Rattle.records.specs.Locks.{holding}
 use Rattle.rules.specs.Tests.{agentIn, partyIn, statusIn, entryIn}
 use Rattle.rules.specs.declared.State.{State}
-
--- the limits: 16 sites, 64 agents, 512 messages
-abbrev pub mostSites : ℕ
-mostSites = 16
-
-abbrev pub mostAgents : ℕ
-mostAgents = 64
-
-abbrev pub mostMessages : ℕ
-mostMessages = 512
 
 -- what every table of the program has, and a list of antt need not: arrays of these lengths
 pub record Shaped (t : State) : Type 0 where
@@ -121,13 +112,13 @@ noState =
       messages = 0;
       handed = 0;
       held = holding Unheld;
-      agent = replicate 64 emptyAgent;
-      sender = replicate 512 (agentNo 0);
-      number = replicate 512 0;
-      addressee = replicate 512 (agentNo 0);
-      value = replicate 512 0;
-      status = replicate 512 (standing Queued);
-      log = replicate 512 emptyEntry;
+      agent = replicate mostAgents emptyAgent;
+      sender = replicate mostMessages (agentNo 0);
+      number = replicate mostMessages 0;
+      addressee = replicate mostMessages (agentNo 0);
+      value = replicate mostMessages 0;
+      status = replicate mostMessages (standing Queued);
+      log = replicate mostMessages emptyEntry;
     }
 
 -- What a step changes it makes anew in one of four ways, and whatever that way does not name is as it was: the agents,

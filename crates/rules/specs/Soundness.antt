@@ -14,7 +14,8 @@ use Rattle.records.specs.Agents.{emptyAgent}
 use Rattle.records.specs.Messages.{emptyMessage, emptyEntry}
 use Rattle.records.specs.Places.{countBelow}
 use Rattle.rules.specs.declared.State.{State}
-use Rattle.rules.specs.Holding.{mostSites, mostAgents, mostMessages, IsAgent, IsSite, IsMessage, agentAt, siteOf, phaseOf, mapOf, messageAt, statusOf, lockOf, logAt}
+use Rattle.records.specs.Limits.{mostSites, mostAgents, mostMessages}
+use Rattle.rules.specs.Holding.{IsAgent, IsSite, IsMessage, agentAt, siteOf, phaseOf, mapOf, messageAt, statusOf, lockOf, logAt}
 
 -- a's creation has come to the child c
 abbrev pub Child : State → AgentNo → AgentNo → Type 0

@@ -24,7 +24,8 @@ use Rattle.rules.specs.declared.State.{State}
 use Rattle.rules.specs.declared.Reply.{Reply}
 use Rattle.rules.specs.declared.Step.{Step}
 use Rattle.rules.specs.declared.Step.the-variants.{Spawn, Ask, Send, Enrol, Greet, Grant, Leap, Book, Settle, Forward, Hand, Close}
-use Rattle.rules.specs.Holding.{mostSites, mostAgents, mostMessages, isAgent, isSite, isMessage, agentAt, siteOf, phaseOf, mapOf, messageAt, statusOf, lockOf, noState, withAgent, nextAgent, withNewAgent, withLock, withStatus, withNewMessage, withLogged}
+use Rattle.records.specs.Limits.{mostSites, mostAgents, mostMessages}
+use Rattle.rules.specs.Holding.{isAgent, isSite, isMessage, agentAt, siteOf, phaseOf, mapOf, messageAt, statusOf, lockOf, noState, withAgent, nextAgent, withNewAgent, withLock, withStatus, withNewMessage, withLogged}
 use Rattle.rules.specs.Answers.{done, refuse, repeated, unless}
 use Rattle.rules.specs.SoundTest.{soundTest}
 

@@ -4,6 +4,7 @@ ghost use mathlib.Core.Bool.{_&&_};
 ghost use Prim.Native.Nat.{_≤_};
 ghost use lib.Dec.{eqb};
 ghost use lib.ListN.{getD};
+ghost use Rattle.records.specs.Limits.{mostMessages};
 ghost use Rattle.records.specs.declared.Code.the-variants.{BadState};
 ghost use Rattle.records.specs.Numbers.{mailNo, sameAgent};
 ghost use Rattle.records.specs.Places.{countBelow, lastBelow};
@@ -69,7 +70,7 @@ fn send_rule(mut t: State, sound: bool, a: AgentNo, n: u32, b: AgentNo, v: u32) 
 
 // The number after the last one is a new message, the numbers up to it are retries.
 fn by_number(mut t: State, a: AgentNo, n: u32, b: AgentNo, v: u32) -> Reply
-    requires { ⌜ t .messages ≤ 512 ⌝ }
+    requires { ⌜ t .messages ≤ mostMessages ⌝ }
     ensures { λ r. ⌜ r ≡ byNumber t a n b v ⌝ }
 {
     let messages = t.messages;
@@ -116,7 +117,7 @@ fn take_new(mut t: State, a: AgentNo, n: u32, b: AgentNo, v: u32) -> Reply
 
 // A retry is the same message if it has the addressee and the value that were taken, queued still or long closed.
 fn retry(t: State, a: AgentNo, n: u32, b: AgentNo, v: u32) -> Reply
-    requires { ⌜ t .messages ≤ 512 ⌝ }
+    requires { ⌜ t .messages ≤ mostMessages ⌝ }
     ensures { λ r. ⌜ r ≡ retry t a n b v ⌝ }
 {
     let messages = t.messages;
@@ -140,7 +141,7 @@ fn retry(t: State, a: AgentNo, n: u32, b: AgentNo, v: u32) -> Reply
 
 // How many messages were taken from a.
 fn sent_by(messages: u32, sender: [AgentNo; MESSAGE_ROOM], a: AgentNo) -> u32
-    requires { ⌜ messages ≤ 512 ⌝ }
+    requires { ⌜ messages ≤ mostMessages ⌝ }
     ensures { λ r. ⌜ r ≡ countBelow messages (λ i. sameAgent (partyIn sender (mailNo i)) a) ⌝ }
 {
     let mut count: u32 = 0;
@@ -163,7 +164,7 @@ fn find_sent(
     a: AgentNo,
     n: u32,
 ) -> Found
-    requires { ⌜ messages ≤ 512 ⌝ }
+    requires { ⌜ messages ≤ mostMessages ⌝ }
     ensures { λ r. ⌜ r ≡ lastBelow messages (λ m. sameAgent (partyIn sender m) a && eqb (getD number (m .0) 0) n) ⌝ }
 {
     let mut i = messages;

@@ -1,6 +1,7 @@
 // Each agent, with the agent that its phase names, and with the lock.
 ghost use mathlib.Core.Path.{_≡_};
 ghost use Prim.Native.Nat.{_≤_};
+ghost use Rattle.records.specs.Limits.{mostAgents};
 ghost use Rattle.rules.specs.Tests.{agentsFine};
 use checks::agents::agent_fine;
 use checks::agents::is_empty_agent;
@@ -14,7 +15,7 @@ use records::limits::AGENT_ROOM;
 
 // Each agent, and then the room past them.
 pub(crate) fn agents_fine(sites: u32, agents: u32, lock: Lock, agent: [Agent; AGENT_ROOM]) -> bool
-    requires { ⌜ agents ≤ 64 ⌝ }
+    requires { ⌜ agents ≤ mostAgents ⌝ }
     ensures { λ r. ⌜ r ≡ agentsFine sites agents lock agent ⌝ }
 {
     let mut fine = true;

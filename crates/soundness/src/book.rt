@@ -3,6 +3,7 @@ ghost use Prim.Native.Nat.{ℕ, _≤_, _<_};
 ghost use mathlib.Core.Path.{_≡_};
 ghost use mathlib.Core.Bool.{_&&_};
 ghost use lib.ListN.{getD};
+ghost use Rattle.records.specs.Limits.{mostAgents, mostMessages};
 ghost use Rattle.records.specs.Numbers.{agentNo};
 ghost use Rattle.rules.specs.Tests.{delivered, statusRoom, numbersFine, logFine, bookFine};
 use checks::places::mail_place;
@@ -22,7 +23,7 @@ use records::messages::status_kind;
 
 // Each sender's numbers run 1, 2, 3 .. in the order of taking, and the room past them is empty.
 fn numbers_run(messages: u32, sender: [AgentNo; MESSAGE_ROOM], number: [u32; MESSAGE_ROOM]) -> bool
-    requires { ⌜ (messages ≤ 512) × ((i : ℕ) → i < messages → getD sender i (agentNo 0) .0 < 64) ⌝ }
+    requires { ⌜ (messages ≤ mostMessages) × ((i : ℕ) → i < messages → getD sender i (agentNo 0) .0 < mostAgents) ⌝ }
     ensures { λ r. ⌜ r ≡ numbersFine messages sender number ⌝ }
 {
     let mut counts = [0u32; AGENT_ROOM];
@@ -50,7 +51,7 @@ fn numbers_run(messages: u32, sender: [AgentNo; MESSAGE_ROOM], number: [u32; MES
 
 // The marked messages are the handed and the closed ones, and the room past the statuses is empty.
 fn marked_right(messages: u32, status: [Stand; MESSAGE_ROOM], seen: [bool; MESSAGE_ROOM]) -> bool
-    requires { ⌜ messages ≤ 512 ⌝ }
+    requires { ⌜ messages ≤ mostMessages ⌝ }
     ensures { λ r. ⌜ r ≡ (delivered messages status seen && statusRoom messages status) ⌝ }
 {
     let mut fine = true;
@@ -83,7 +84,7 @@ fn log_runs(
     status: [Stand; MESSAGE_ROOM],
     log: [MailNo; MESSAGE_ROOM],
 ) -> bool
-    requires { ⌜ (messages ≤ 512) × (handed ≤ 512) ⌝ }
+    requires { ⌜ (messages ≤ mostMessages) × (handed ≤ mostMessages) ⌝ }
     ensures { λ r. ⌜ r ≡ logFine messages handed status log ⌝ }
 {
     let mut seen = [false; MESSAGE_ROOM];
@@ -117,7 +118,7 @@ pub(crate) fn book_fine(
     status: [Stand; MESSAGE_ROOM],
     log: [MailNo; MESSAGE_ROOM],
 ) -> bool
-    requires { ⌜ (messages ≤ 512) × ((handed ≤ 512) × ((i : ℕ) → i < messages → getD sender i (agentNo 0) .0 < 64)) ⌝ }
+    requires { ⌜ (messages ≤ mostMessages) × ((handed ≤ mostMessages) × ((i : ℕ) → i < messages → getD sender i (agentNo 0) .0 < mostAgents)) ⌝ }
     ensures { λ r. ⌜ r ≡ bookFine messages handed sender number status log ⌝ }
 {
     let numbers = numbers_run(messages, sender, number);

@@ -7,6 +7,7 @@ mod rooms;
 
 ghost use mathlib.Core.Path.{_≡_};
 ghost use Prim.Native.Nat.{_≤_};
+ghost use Rattle.records.specs.Limits.{mostAgents, mostMessages};
 ghost use Rattle.rules.specs.Tests.{eachFine, partsSound};
 use agents::agents_fine;
 use book::book_fine;
@@ -34,7 +35,7 @@ fn each_fine(
     addressee: [AgentNo; MESSAGE_ROOM],
     status: [Stand; MESSAGE_ROOM],
 ) -> bool
-    requires { ⌜ (agents ≤ 64) × (messages ≤ 512) ⌝ }
+    requires { ⌜ (agents ≤ mostAgents) × (messages ≤ mostMessages) ⌝ }
     ensures { λ r. ⌜ r ≡ eachFine sites agents messages lock agent sender addressee status ⌝ }
 {
     let people = agents_fine(sites, agents, lock, agent);

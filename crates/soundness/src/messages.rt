@@ -1,6 +1,7 @@
 // Each message, with its sender, its addressee and the lock.
 ghost use mathlib.Core.Path.{_≡_};
 ghost use Prim.Native.Nat.{_≤_};
+ghost use Rattle.records.specs.Limits.{mostAgents, mostMessages};
 ghost use Rattle.rules.specs.Tests.{messagesFine};
 use checks::messages::parties_fine;
 use checks::messages::status_right;
@@ -25,7 +26,7 @@ pub(crate) fn messages_fine(
     addressee: [AgentNo; MESSAGE_ROOM],
     status: [Stand; MESSAGE_ROOM],
 ) -> bool
-    requires { ⌜ (agents ≤ 64) × (messages ≤ 512) ⌝ }
+    requires { ⌜ (agents ≤ mostAgents) × (messages ≤ mostMessages) ⌝ }
     ensures { λ r. ⌜ r ≡ messagesFine agents messages lock agent sender addressee status ⌝ }
 {
     let mut i: u32 = 0;

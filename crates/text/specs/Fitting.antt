@@ -4,6 +4,7 @@ use mathlib.Core.List.{List}
 use lib.ListN.{length}
 use lib.Dec.{leb}
 use Rattle.records.specs.declared.Code.the-variants.{NoRoom}
+use Rattle.records.specs.Limits.{mostAgents, mostMessages}
 use Rattle.rules.specs.declared.State.{State}
 use Rattle.text.specs.Text.{written}
 use Rattle.text.specs.Writing.{Wrote, unlessWriting, wroteText}
@@ -14,4 +15,4 @@ writeFitting t buffer =
 
 -- the counts that the arrays have room for
 abbrev pub CountsFit : State → Type 0
-CountsFit t = (t .agents ≤ 64) × (t .messages ≤ 512) × (t .handed ≤ 512)
+CountsFit t = (t .agents ≤ mostAgents) × (t .messages ≤ mostMessages) × (t .handed ≤ mostMessages)

@@ -1,5 +1,6 @@
 // The rows of the agents, of the messages and of the log, each from 0 upward.
 ghost use Prim.Native.Nat.{_+_, _*_, _<_, _≤_};
+ghost use Rattle.records.specs.Limits.{mostAgents, mostMessages};
 ghost use Rattle.text.specs.Placing.{Put};
 ghost use Rattle.text.specs.Text.{rowsBelow};
 ghost use Rattle.text.specs.Rows.{agentRow, messageRow, logRow};
@@ -21,7 +22,7 @@ pub(crate) fn put_agents(
     agent: [Agent; AGENT_ROOM],
 ) -> usize
     requires { ⌜ at < 100000 ⌝ }
-    requires { ⌜ agents ≤ 64 ⌝ }
+    requires { ⌜ agents ≤ mostAgents ⌝ }
     ensures { λ r. ⌜ Put (rowsBelow agents (agentRow agent)) (now (buf .entry)) (now (buf .exit)) at r × (r ≤ at + 64 * agents) ⌝ }
 {
     let mut next = at;
@@ -46,7 +47,7 @@ pub(crate) fn put_messages(
     status: [Stand; MESSAGE_ROOM],
 ) -> usize
     requires { ⌜ at < 200000 ⌝ }
-    requires { ⌜ messages ≤ 512 ⌝ }
+    requires { ⌜ messages ≤ mostMessages ⌝ }
     ensures { λ r. ⌜ Put (rowsBelow messages (messageRow sender number addressee value status)) (now (buf .entry)) (now (buf .exit)) at r × (r ≤ at + 86 * messages) ⌝ }
 {
     let mut next = at;
@@ -74,7 +75,7 @@ pub(crate) fn put_messages(
 
 pub(crate) fn put_log(buf: &mut [u8], at: usize, handed: u32, log: [MailNo; MESSAGE_ROOM]) -> usize
     requires { ⌜ at < 300000 ⌝ }
-    requires { ⌜ handed ≤ 512 ⌝ }
+    requires { ⌜ handed ≤ mostMessages ⌝ }
     ensures { λ r. ⌜ Put (rowsBelow handed (logRow log)) (now (buf .entry)) (now (buf .exit)) at r × (r ≤ at + 32 * handed) ⌝ }
 {
     let mut next = at;
