@@ -17,5 +17,4 @@ pub mod InOrder
 pub mod Example
 pub mod Inboxes
 pub mod AllSettled
-pub mod Called
 pub mod TurnedAway

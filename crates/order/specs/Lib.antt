@@ -5,4 +5,3 @@ pub mod Boards
 pub mod Ordering
 pub mod Settled
 pub mod Demand
-pub mod Callers

@@ -3,3 +3,4 @@ pub mod Values
 pub mod Fits
 pub mod Room
 pub mod InOrder
+pub mod Called

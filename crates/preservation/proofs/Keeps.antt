@@ -18,6 +18,7 @@ use Rattle.rules.specs.Answers.{done, unless}
 use Rattle.rules.specs.Steps.{addresseeOf, ruleOf, stepOf}
 use Rattle.rules.specs.Sessions.{lastFrom}
 use Rattle.rules.proofs.SoundIff.{sound-to}
+use Rattle.preservation.specs.Kept.{StepsKeep, RunsKeep, NeverLost}
 use Rattle.preservation.proofs.OneAgent.{Good}
 use Rattle.preservation.proofs.Outcomes.{Went, spawned, asked, sent, enrolled, greeted, granted, leapt, booked, settled, forwarded, handed, lost, closed, Outcome, stayed, went, step-outcome}
 use Rattle.preservation.proofs.Moves.{ask-good, grant-good, leap-good, book-good, settle-good}
@@ -48,11 +49,11 @@ outcome-good : (t : State) (s : Step) (r : Reply) → Good t → Outcome t s r �
 outcome-good t s r g (stayed same code number below) = subst Good (sym same) g
 outcome-good t s r g (went code w) = went-good t s (r .number) (r .state) g w
 
-pub step-keeps : (t : State) → Shaped t → Sound t → (s : Step) → Shaped (stepOf t s .state) × Sound (stepOf t s .state)
+pub step-keeps : StepsKeep
 step-keeps t sh so s = outcome-good t s (stepOf t s) (sh, so) (step-outcome t s)
 
 -- and along any sequence of steps
-pub run-keeps : (r : Reply) → Shaped (r .state) → Sound (r .state) → (ss : List Step) → Shaped (lastFrom r ss) × Sound (lastFrom r ss)
+pub run-keeps : RunsKeep
 unfolding lastFrom
 run-keeps r sh so [] = (sh, so)
 run-keeps r sh so (s ∷ ss) =
@@ -60,15 +61,7 @@ run-keeps r sh so (s ∷ ss) =
     run-keeps (stepOf (r .state) s) (g .0) (g .1) ss
 
 -- so no message of a table that is reached is lost
-pub never-lost :
-    (r : Reply)
-    → Shaped (r .state)
-    → Sound (r .state)
-    → (ss : List Step)
-    → (m : MailNo)
-    → IsMessage (lastFrom r ss) m
-    → statusOf (lastFrom r ss) m ≡ Lost
-    → ⊥
+pub never-lost : NeverLost
 never-lost r sh so ss m h = run-keeps r sh so ss .1 .lost m h
 
 -- and a hand of a message that is out hands it over
