@@ -1,86 +1,143 @@
-// Runs the plan's steps one after the other and prints what each answers, as CODE,NUMBER; then what is read of a short session's tables. The
-// plan's stored output is what the independent program bench/baseline.rs prints for these steps; the readings' was worked out by hand.
-use libc::STDOUT_FILENO;
-use records::AgentNo;
+// Runs the lines of standard input on the methods of a table, as a host calls them, and prints behind each line what it answers, as
+// CODE,NUMBER; then what is read of a short session's tables. An opening line always opens anew. Beside the lines of a script there are
+// `none`, which starts again from the table that stands where an answer has none, and `agents=N`, `messages=N` and `own=N`, which fill the
+// table up to N. An empty line, and one that begins with `#`, is a heading.
+use check::same;
+use grammar::Line;
+use grammar::Numeral;
+use libc::STDIN_FILENO;
+use lines::read_line;
+use printing::put;
+use printing::put_number;
 use records::Code;
-use records::MailNo;
-use records::SiteNo;
 use records::codes::code_number;
+use rules::Step;
+use scanning::finding::first_line;
+use scanning::finding::line_taken;
+use scanning::numerals::read_number;
 use table::Answer;
 use table::Table;
 
-mod plan;
+mod printing;
 mod reading;
 
-// A table that the plan asks for in one go.
-fn given(t: Table) -> Answer {
-    Answer {
+// Prints a code and a number, and hands on the table that came with them.
+fn told(r: Answer) -> Table {
+    let code = r.code;
+    put_number(b": ", code_number(code));
+    put_number(b",", r.number);
+    r.table
+}
+
+// Prints that the table was filled, and hands it on.
+fn filled(t: Table) -> Table {
+    put(b": filled");
+    t
+}
+
+// Takes a step by its method.
+fn step_on(t: Table, step: Step) -> Answer {
+    match step {
+        Step::Spawn(a) => t.spawn(a),
+        Step::Ask(a, u) => t.ask(a, u),
+        Step::Send(a, n, b, v) => t.send(a, n, b, v),
+        Step::Enrol(b) => t.enrol(b),
+        Step::Greet(b) => t.greet(b),
+        Step::Grant(a) => t.grant(a),
+        Step::Leap(a) => t.leap(a),
+        Step::Book(a) => t.book(a),
+        Step::Settle(a) => t.settle(a),
+        Step::Forward(m) => t.forward(m),
+        Step::Hand(m) => t.hand(m),
+        Step::Close(m) => t.close(m),
+    }
+}
+
+// Reads the number that the whole line holds behind a word, if it begins with that word.
+fn number_behind(word: &[u8], line: &[u8]) -> Numeral {
+    let at = word.len();
+    if line.len() < at {
+        return Numeral::NoNumber;
+    }
+    if !same(&line[..at], word) {
+        return Numeral::NoNumber;
+    }
+    let text = &line[at..];
+    let Numeral::Number(n, taken) = read_number(text) else {
+        return Numeral::NoNumber;
+    };
+    if taken < text.len() {
+        return Numeral::NoNumber;
+    }
+    Numeral::Number(n, taken)
+}
+
+// Takes a line that no script has: a word of this program's own goes on, and any other line answers 24.
+fn take_own(t: Table, line: &[u8]) -> Table {
+    if same(line, b"none") {
+        put(b": no table");
+        return Table::none();
+    }
+    if let Numeral::Number(n, _) = number_behind(b"agents=", line) {
+        return filled(full_tables::with_agents(t, n));
+    }
+    if let Numeral::Number(n, _) = number_behind(b"messages=", line) {
+        return filled(full_tables::with_messages(t, n));
+    }
+    if let Numeral::Number(n, _) = number_behind(b"own=", line) {
+        return filled(full_tables::with_own_messages(t, n));
+    }
+    told(Answer {
         table: t,
-        code: Code::Done,
+        code: Code::BadLine,
         number: 0,
+    })
+}
+
+// Takes a line that is no heading.
+fn take_line(t: Table, line: &[u8]) -> Table {
+    match read_line(line) {
+        Line::Opening(sites) => told(Table::open(sites)),
+        Line::Take(step) => told(step_on(t, step)),
+        Line::Bad => take_own(t, line),
     }
 }
 
-fn agent_step(t: Table, kind: u32, a: AgentNo, u: SiteNo) -> Answer {
-    match kind {
-        1 => t.spawn(a),
-        2 => t.ask(a, u),
-        4 => t.enrol(a),
-        5 => t.greet(a),
-        6 => t.grant(a),
-        7 => t.leap(a),
-        8 => t.book(a),
-        _ => t.settle(a),
+// Tells whether a line is a heading.
+fn is_heading(line: &[u8]) -> bool {
+    if line.len() == 0 {
+        return true;
     }
+    line[0] == b'#'
 }
 
-fn mail_step(t: Table, kind: u32, m: MailNo) -> Answer {
-    match kind {
-        10 => t.forward(m),
-        11 => t.hand(m),
-        _ => t.close(m),
+// Prints a line with what it comes to, and hands on the table.
+fn show_line(t: Table, line: &[u8]) -> Table {
+    put(line);
+    if is_heading(line) {
+        put(b"\n");
+        return t;
     }
+    let after = take_line(t, line);
+    put(b"\n");
+    after
 }
 
-// One row of the plan.
-fn row(t: Table, kind: u32, x: u32, y: u32, z: u32, w: u32) -> Answer {
-    match kind {
-        0 => Table::open(x),
-        3 => t.send(AgentNo(x), y, AgentNo(z), w),
-        10 => mail_step(t, kind, MailNo(x)),
-        11 => mail_step(t, kind, MailNo(x)),
-        12 => mail_step(t, kind, MailNo(x)),
-        13 => given(filling::with_agents(t)),
-        14 => given(filling::with_messages(t)),
-        16 => given(filling::with_own_messages(t)),
-        15 => given(Table::none()),
-        _ => agent_step(t, kind, AgentNo(x), SiteNo(y)),
-    }
-}
-
-fn told(code: Code, number: u32) {
-    io::print_decimal(STDOUT_FILENO, code_number(code) as u64);
-    io::write_all(STDOUT_FILENO, b",");
-    io::print_decimal(STDOUT_FILENO, number as u64);
-    io::write_all(STDOUT_FILENO, b"\n");
-}
-
-fn main() {
+// Shows every line of the input, one after the other.
+fn show_lines(input: &[u8]) {
+    let mut rest = input;
     let mut t = Table::none();
-    let mut i = 0;
-    while i < 115 {
-        let r = row(
-            t,
-            plan::KIND[i],
-            plan::FIRST[i],
-            plan::SECOND[i],
-            plan::THIRD[i],
-            plan::FOURTH[i],
-        );
-        let code = r.code;
-        told(code, r.number);
-        t = r.table;
-        i += 1;
+    while 0 < rest.len() {
+        t = show_line(t, first_line(rest));
+        let taken = line_taken(rest);
+        rest = &rest[taken..];
     }
+}
+
+// Shows the lines of standard input, and then the readings.
+fn main() {
+    let mut input = io::large_buffer();
+    let count = io::read_full(STDIN_FILENO, &mut input);
+    show_lines(&input[..count]);
     reading::show();
 }

@@ -1,4 +1,4 @@
-// The tables that are written.
+// The tables that are written, put together field by field.
 use records::Agent;
 use records::AgentNo;
 use records::Held;
@@ -9,8 +9,23 @@ use records::Phase;
 use records::SiteNo;
 use records::Stand;
 use records::Status;
+use records::limits::AGENT_ROOM;
+use records::limits::MESSAGE_ROOM;
+use records::limits::MOST_AGENTS;
+use records::limits::MOST_MESSAGES;
+use records::limits::MOST_SITES;
 use table::Table;
 
+// The last number of each kind, and the largest value.
+const LAST_SITE: u32 = MOST_SITES - 1;
+
+const LAST_AGENT: u32 = MOST_AGENTS - 1;
+
+const LAST_MESSAGE: u32 = MOST_MESSAGES - 1;
+
+const MOST_VALUE: u32 = 4294967295;
+
+// Makes an agent's record.
 fn agent(site: u32, phase: Phase, map: Mapped) -> Agent {
     Agent {
         site: SiteNo(site),
@@ -19,13 +34,14 @@ fn agent(site: u32, phase: Phase, map: Mapped) -> Agent {
     }
 }
 
+// Makes a status's record.
 fn stand(status: Status) -> Stand {
     Stand { status: status }
 }
 
-// The table that session S ends in.
+// Gives the table that session S ends in.
 pub fn session() -> Table {
-    let mut t = Table::none();
+    let mut t = Table::none().state;
     let mut people = t.agent;
     people[0] = agent(0, Phase::Free, Mapped::At(SiteNo(0)));
     people[1] = agent(2, Phase::Booked, Mapped::At(SiteNo(2)));
@@ -46,12 +62,12 @@ pub fn session() -> Table {
     t.addressee = addressee;
     t.value = value;
     t.status = status;
-    t
+    Table { state: t }
 }
 
-// The lock held for a move, a child not enrolled yet, and a message that waits for it.
+// Gives a table with the lock held for a move, a child not enrolled yet, and a message that waits for it.
 pub fn moving() -> Table {
-    let mut t = Table::none();
+    let mut t = Table::none().state;
     let mut people = t.agent;
     people[0] = agent(4, Phase::Spawning(AgentNo(1)), Mapped::At(SiteNo(4)));
     people[1] = agent(4, Phase::Born(AgentNo(0)), Mapped::Nowhere);
@@ -82,12 +98,12 @@ pub fn moving() -> Table {
     t.number = number;
     t.addressee = addressee;
     t.value = value;
-    t
+    Table { state: t }
 }
 
-// The lock held for a message on its way, to a child that is enrolled.
+// Gives a table with the lock held for a message on its way, to a child that is enrolled.
 pub fn mailing() -> Table {
-    let mut t = Table::none();
+    let mut t = Table::none().state;
     let mut people = t.agent;
     people[0] = agent(11, Phase::Spawning(AgentNo(1)), Mapped::At(SiteNo(11)));
     people[1] = agent(11, Phase::Enrolled(AgentNo(0)), Mapped::At(SiteNo(11)));
@@ -111,71 +127,78 @@ pub fn mailing() -> Table {
     t.addressee = addressee;
     t.value = value;
     t.status = status;
-    t
+    Table { state: t }
 }
 
-// Thirty-two parents and their enrolled children, all at the last site.
-fn families() -> [Agent; 64] {
-    let here = Mapped::At(SiteNo(15));
+// Makes thirty-two parents and their enrolled children, all at the last site.
+fn families() -> [Agent; AGENT_ROOM] {
+    let here = Mapped::At(SiteNo(LAST_SITE));
     let mut people = [Agent {
         site: SiteNo(0),
         phase: Phase::Free,
         map: Mapped::Nowhere,
-    }; 64];
+    }; AGENT_ROOM];
     let mut i: usize = 0;
-    while i < 63 {
+    while i < AGENT_ROOM - 1 {
         let number = i as u32;
-        people[i] = agent(15, Phase::Spawning(AgentNo(number + 1)), here);
+        people[i] = agent(LAST_SITE, Phase::Spawning(AgentNo(number + 1)), here);
         let next = i + 1;
-        people[next] = agent(15, Phase::Enrolled(AgentNo(number)), here);
+        people[next] = agent(LAST_SITE, Phase::Enrolled(AgentNo(number)), here);
         i += 2;
     }
     people
 }
 
-// The numbers of one sender's messages.
-fn counted() -> [u32; 512] {
-    let mut number = [0u32; 512];
+// Counts one sender's messages from 1.
+fn counted() -> [u32; MESSAGE_ROOM] {
+    let mut number = [0u32; MESSAGE_ROOM];
     let mut i: usize = 0;
-    while i < 512 {
+    while i < MESSAGE_ROOM {
         number[i] = i as u32 + 1;
         i += 1;
     }
     number
 }
 
-// Each message once, the last one first.
-fn backward() -> [MailNo; 512] {
-    let mut log = [MailNo(0); 512];
+// Logs each message once, the last one first.
+fn backward() -> [MailNo; MESSAGE_ROOM] {
+    let mut log = [MailNo(0); MESSAGE_ROOM];
     let mut i: usize = 0;
-    while i < 512 {
-        log[i] = MailNo(511 - i as u32);
+    while i < MESSAGE_ROOM {
+        log[i] = MailNo(LAST_MESSAGE - i as u32);
         i += 1;
     }
     log
 }
 
-// As many agents and messages as there can be, with the largest values; the last message is handed and not closed.
+// Closes every message but the last, which is handed.
+fn closed() -> [Stand; MESSAGE_ROOM] {
+    let mut status = [stand(Status::Closed); MESSAGE_ROOM];
+    status[MESSAGE_ROOM - 1] = stand(Status::Handed);
+    status
+}
+
+// Gives a table of as many agents and messages as there can be, with the largest values; the last message is handed and not closed.
 pub fn full() -> Table {
+    let mut t = Table::none().state;
     let agent = families();
     let number = counted();
+    let status = closed();
     let log = backward();
-    let mut status = [stand(Status::Closed); 512];
-    status[511] = stand(Status::Handed);
-    Table {
-        sites: 16,
-        agents: 64,
-        messages: 512,
-        handed: 512,
-        held: Held {
-            lock: Lock::ForMail(MailNo(511)),
-        },
-        agent: agent,
-        sender: [AgentNo(62); 512],
-        number: number,
-        addressee: [AgentNo(63); 512],
-        value: [4294967295; 512],
-        status: status,
-        log: log,
-    }
+    t.sites = MOST_SITES;
+    t.agents = MOST_AGENTS;
+    t.messages = MOST_MESSAGES;
+    t.handed = MOST_MESSAGES;
+    let held = Held {
+        lock: Lock::ForMail(MailNo(LAST_MESSAGE)),
+    };
+    t.held = held;
+    t.agent = agent;
+    t.sender = [AgentNo(LAST_AGENT - 1); MESSAGE_ROOM];
+    t.number = number;
+    t.addressee = [AgentNo(LAST_AGENT); MESSAGE_ROOM];
+    t.value = [MOST_VALUE; MESSAGE_ROOM];
+    t.status = status;
+    t.log = log;
+    Table { state: t }
 }

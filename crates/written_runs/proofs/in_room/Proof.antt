@@ -5,8 +5,14 @@ use borrow.Author.Needs.{needs}
 use Rattle.written_runs.proofs.in_room.Statement.{statement}
 use Rattle.written_runs.proofs.in_room.Tie as tie
 
-filling-requires : tie.Need-filling-requires
-filling-requires c κs = search needs
+slice-aggregate-print-number : tie.Need-slice-aggregate-print-number
+slice-aggregate-print-number c = search needs
+
+print-number-requires : tie.Need-print-number-requires
+print-number-requires c κs = search needs
+
+marked-room-requires : tie.Need-marked-room-requires
+marked-room-requires c κs = search needs
 
 array-borrow-prefix-buf : tie.Need-array-borrow-prefix-buf
 array-borrow-prefix-buf c = search needs
@@ -24,7 +30,9 @@ pub in-room-spec : {M : Type 1} → statement M
 in-room-spec =
     tie.close
     (tie.spec
-    filling-requires
+    slice-aggregate-print-number
+    print-number-requires
+    marked-room-requires
     array-borrow-prefix-buf
     slice-aggregate-report
     report-requires

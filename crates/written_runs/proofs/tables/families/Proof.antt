@@ -16,11 +16,14 @@ abbrev μ-loop : tie.MeasureT-loop
 loop-holds : tie.Need-loop-holds Inv-loop μ-loop
 loop-holds c = (zero-le, refl)
 
+sub-loop : tie.Need-sub-loop Inv-loop μ-loop
+sub-loop c = omega arith
+
 cast-number : tie.Need-cast-number Inv-loop μ-loop
 cast-number c = omega arith
 
-add-t12 : tie.Need-add-t12 Inv-loop μ-loop
-add-t12 c = omega arith
+add-t13 : tie.Need-add-t13 Inv-loop μ-loop
+add-t13 c = omega arith
 
 agent-requires : tie.Need-agent-requires Inv-loop μ-loop
 agent-requires c κs = search needs
@@ -62,8 +65,9 @@ families-spec =
     Inv-loop
     μ-loop
     loop-holds
+    sub-loop
     cast-number
-    add-t12
+    add-t13
     agent-requires
     mul-people
     array-set-from-people
