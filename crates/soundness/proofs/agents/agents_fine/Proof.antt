@@ -2,16 +2,15 @@
 use Rattle.soundness.proofs.agents.agents_fine.Statement.{statement}
 use Rattle.soundness.proofs.agents.agents_fine.Tie as tie
 use borrow.Author.Needs.{needs}
-use Prim.Native.Nat.{ℕ, _+_, _-_, _≤_, _<_}
-use mathlib.Core.Bool.{Bool, _&&_}
-use mathlib.Core.Path.{_≡_, refl, ap₂, _∙_}
+use Prim.Native.Nat.{_-_, _≤_}
+use mathlib.Core.Bool.{_&&_}
+use mathlib.Core.Path.{_≡_, refl}
 use Rattle.records.specs.Places.{allBelow, allOf}
 use Rattle.rules.specs.Tests.{agentFine, agentRoom}
 use Rattle.records.proofs.LoopLaws.{below-on, below-end, room-on, room-end}
 use Rattle.rules.proofs.PlacesRead.{agent-read}
-use lib.ListN.{getD, drop}
+use lib.ListN.{drop}
 use Rattle.records.specs.Agents.{isEmptyAgent, emptyAgent}
-use Rattle.records.specs.declared.Agent.{Agent}
 
 abbrev Inv-loop : tie.InvT-loop
 Inv-loop sites agents lock agent fine₀ i₀ fine i = (i ≤ agents) × (fine ≡ allBelow i (agentFine sites agents lock agent))

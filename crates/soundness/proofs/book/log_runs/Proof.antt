@@ -2,13 +2,12 @@
 use Rattle.soundness.proofs.book.log_runs.Statement.{statement}
 use Rattle.soundness.proofs.book.log_runs.Tie as tie
 use borrow.Author.Needs.{needs}
-use Prim.Native.Nat.{ℕ, _+_, _-_, _≤_, _<_}
+use Prim.Native.Nat.{_-_, _≤_}
 use mathlib.Core.Bool.{Bool, true, false, _&&_}
-use mathlib.Core.List.{List}
-use mathlib.Core.Path.{_≡_, refl, sym, ap, _∙_}
-use lib.ListN.{getD, set, drop}
-use lib.Dec.{ltb, eqb}
-use Rattle.rules.specs.Tests.{logRuns, noMarks, delivered, entryIn, statusRoom, logRoom}
+use mathlib.Core.Path.{_≡_, refl}
+use lib.ListN.{drop}
+use lib.Dec.{eqb}
+use Rattle.rules.specs.Tests.{logRuns, noMarks, delivered, statusRoom, logRoom}
 use Rattle.rules.proofs.TestRuns.{log-start, log-on, log-end}
 use Rattle.records.specs.Places.{allOf}
 use Rattle.records.specs.Messages.{emptyEntry}

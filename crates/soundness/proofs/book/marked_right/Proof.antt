@@ -2,9 +2,9 @@
 use Rattle.soundness.proofs.book.marked_right.Statement.{statement}
 use Rattle.soundness.proofs.book.marked_right.Tie as tie
 use borrow.Author.Needs.{needs}
-use Prim.Native.Nat.{ℕ, _+_, _-_, _≤_, _<_}
+use Prim.Native.Nat.{_-_, _≤_}
 use mathlib.Core.Bool.{Bool, false, Bool·beq, _&&_}
-use mathlib.Core.Path.{_≡_, refl, ap₂, _∙_}
+use mathlib.Core.Path.{_≡_, refl}
 use lib.ListN.{getD, drop}
 use Rattle.records.specs.Numbers.{mailNo}
 use Rattle.records.specs.Messages.{isDelivered, isQueued, standing}

@@ -2,9 +2,9 @@
 use Rattle.soundness.proofs.messages.messages_fine.Statement.{statement}
 use Rattle.soundness.proofs.messages.messages_fine.Tie as tie
 use borrow.Author.Needs.{needs}
-use Prim.Native.Nat.{ℕ, _+_, _-_, _≤_, _<_}
+use Prim.Native.Nat.{ℕ, _-_, _≤_}
 use mathlib.Core.Bool.{Bool, true, _&&_}
-use mathlib.Core.Path.{_≡_, refl, sym, ap₂, _∙_}
+use mathlib.Core.Path.{_≡_, refl, sym, _∙_}
 use borrow.Author.Tests.{not-true, not-false}
 use Rattle.records.specs.Places.{allBelow, allOf}
 use lib.ListN.{getD, drop}

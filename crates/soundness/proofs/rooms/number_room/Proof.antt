@@ -2,11 +2,11 @@
 use Rattle.soundness.proofs.rooms.number_room.Statement.{statement}
 use Rattle.soundness.proofs.rooms.number_room.Tie as tie
 use borrow.Author.Needs.{needs}
-use Prim.Native.Nat.{ℕ, _+_, _-_, _<_}
+use Prim.Native.Nat.{ℕ, _-_}
 use mathlib.Core.Bool.{Bool, _&&_}
 use mathlib.Core.Path.{_≡_, refl}
 use lib.Dec.{eqb}
-use lib.ListN.{getD, drop}
+use lib.ListN.{drop}
 use Rattle.records.specs.Places.{allOf}
 use Rattle.rules.specs.Tests.{numberRoom}
 use Rattle.records.proofs.LoopLaws.{room-on, room-end}
