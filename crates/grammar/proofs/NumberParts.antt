@@ -15,38 +15,50 @@ use Rattle.grammar.specs.Grammar.{Numbers, none, some, andThen, pastComm
 use Rattle.grammar.specs.LineParts.{isComma, withComma, leadingNumber, withEnd, lastNumber}
 
 -- the last number, by what is read at the front and by what stands behind it
-module _ (bs : List ℕ) where
-  pub last-none : numeralOf bs ≡ NoNumber → NoNumber ≡ lastNumber bs
+module _ (bs : List ℕ) {read : Numeral} where
+  pub last-none : read ≡ numeralOf bs → read ≡ NoNumber → NoNumber ≡ lastNumber bs
   unfolding lastNumber
-  last-none e = rw e
+  last-none told e = rw (← told, e)
 
-  pub last-more : (v n : ℕ) → numeralOf bs ≡ Number v n → n < length bs → NoNumber ≡ lastNumber bs
+  pub last-more : (v n : ℕ) → read ≡ numeralOf bs → read ≡ Number v n → n < length bs → NoNumber ≡ lastNumber bs
   unfolding lastNumber
-  last-more v n e h = rw (e, lt-leb (length bs) n h)
+  last-more v n told e h = rw (← told, e, lt-leb (length bs) n h)
 
-  pub last-is : (v n : ℕ) → numeralOf bs ≡ Number v n → length bs ≤ n → Number v n ≡ lastNumber bs
+  pub last-is : (v n : ℕ) → read ≡ numeralOf bs → read ≡ Number v n → length bs ≤ n → Number v n ≡ lastNumber bs
   unfolding lastNumber
-  last-is v n e h = rw (e, le-leb (length bs) n h)
+  last-is v n told e h = rw (← told, e, le-leb (length bs) n h)
 
   -- a number that others follow
-  pub leading-none : numeralOf bs ≡ NoNumber → NoNumber ≡ leadingNumber bs
+  pub leading-none : read ≡ numeralOf bs → read ≡ NoNumber → NoNumber ≡ leadingNumber bs
   unfolding leadingNumber
-  leading-none e = rw e
+  leading-none told e = rw (← told, e)
 
-  pub leading-at-end : (v n : ℕ) → numeralOf bs ≡ Number v n → length bs ≤ n → NoNumber ≡ leadingNumber bs
+  pub leading-at-end : (v n : ℕ) → read ≡ numeralOf bs → read ≡ Number v n → length bs ≤ n → NoNumber ≡ leadingNumber bs
   unfolding leadingNumber
-  leading-at-end v n e h = rw (e, drop-of-length-le bs h)
+  leading-at-end v n told e h = rw (← told, e, drop-of-length-le bs h)
 
-  pub leading-other : (v n : ℕ) → numeralOf bs ≡ Number v n → n < length bs → (getD bs n 0 ≡ 44 → ⊥) → NoNumber ≡ leadingNumber bs
+  pub leading-other :
+      (v n : ℕ)
+      → read ≡ numeralOf bs
+      → read ≡ Number v n
+      → n < length bs
+      → (getD bs n 0 ≡ 44 → ⊥)
+      → NoNumber ≡ leadingNumber bs
   unfolding leadingNumber
-  leading-other v n e h d = rw (e, drop-cons bs n 0, ne-eqb (getD bs n 0) 44 d)
+  leading-other v n told e h d = rw (← told, e, drop-cons bs n 0, ne-eqb (getD bs n 0) 44 d)
 
-  pub leading-is : (v n : ℕ) → numeralOf bs ≡ Number v n → n < length bs → getD bs n 0 ≡ 44 → Number v (n + 1) ≡ leadingNumber bs
+  pub leading-is :
+      (v n : ℕ)
+      → read ≡ numeralOf bs
+      → read ≡ Number v n
+      → n < length bs
+      → getD bs n 0 ≡ 44
+      → Number v (n + 1) ≡ leadingNumber bs
   unfolding leadingNumber
-  leading-is v n e h d = rw (e, drop-cons bs n 0, eq-eqb (getD bs n 0) 44 d, add-one n)
+  leading-is v n told e h d = rw (← told, e, drop-cons bs n 0, eq-eqb (getD bs n 0) 44 d, add-one n)
 
 -- what the numbers are by the last one
-abbrev pub lastNumbers : Numeral → Numbers
+abbrev lastNumbers : Numeral → Numbers
 lastNumbers NoNumber = none
 lastNumbers (Number v n) = some (v ∷ [])
 
@@ -58,12 +70,12 @@ last-by : (bs : List ℕ) (x : Numeral) → thenNumbers x bs (λ rest. atEnd res
 last-by bs NoNumber = refl
 last-by bs (Number v n) = last-case bs v n (leb (length bs) n) refl
 
-pub one-number : (bs : List ℕ) → numbersOf 1 bs ≡ lastNumbers (lastNumber bs)
+one-number : (bs : List ℕ) → numbersOf 1 bs ≡ lastNumbers (lastNumber bs)
 unfolding numbersOf lastNumber
 one-number bs = last-by bs (numeralOf bs)
 
 -- what they are by one that others follow
-abbrev pub moreNumbers : ℕ → List ℕ → Numeral → Numbers
+abbrev moreNumbers : ℕ → List ℕ → Numeral → Numbers
 moreNumbers m bs NoNumber = none
 moreNumbers m bs (Number v n) = andThen v (numbersOf m (drop n bs))
 
@@ -82,7 +94,7 @@ more-by : (m : ℕ) (bs : List ℕ) (x : Numeral) → thenNumbers x bs (λ rest.
 more-by m bs NoNumber = refl
 more-by m bs (Number v n) = comma-by m v n bs (drop n bs) refl
 
-pub more-numbers : (m : ℕ) (bs : List ℕ) → numbersOf (suc (suc m)) bs ≡ moreNumbers (suc m) bs (leadingNumber bs)
+more-numbers : (m : ℕ) (bs : List ℕ) → numbersOf (suc (suc m)) bs ≡ moreNumbers (suc m) bs (leadingNumber bs)
 unfolding numbersOf leadingNumber
 more-numbers m bs = more-by (suc m) bs (numeralOf bs)
 
@@ -101,6 +113,28 @@ within-by : (v n : ℕ) (bs : List ℕ) (x : Numeral) → withComma bs x ≡ Num
 within-by v n bs NoNumber e = let z : _≡_ {A = ℕ} 0 1 = cc in omega arith
 within-by v n bs (Number w k) e = number-within w v k n bs (isComma (drop k bs)) refl e
 
-pub leading-within : (bs : List ℕ) (v n : ℕ) → leadingNumber bs ≡ Number v n → n ≤ length bs
+leading-within : (bs : List ℕ) (v n : ℕ) → leadingNumber bs ≡ Number v n → n ≤ length bs
 unfolding leadingNumber
 leading-within bs v n e = within-by v n bs (numeralOf bs) e
+
+-- a line's numbers, by the number r that was read at their front, and by what was read behind it
+module _ (bs : List ℕ) {r : Numeral} where
+  pub none-last : r ≡ lastNumber bs → r ≡ NoNumber → numbersOf 1 bs ≡ none
+  none-last told e = rw (one-number, ← told, e)
+
+  pub some-last : (v n : ℕ) → r ≡ lastNumber bs → r ≡ Number v n → numbersOf 1 bs ≡ some (v ∷ [])
+  some-last v n told e = rw (one-number, ← told, e)
+
+  pub none-leading : (m : ℕ) → r ≡ leadingNumber bs → r ≡ NoNumber → numbersOf (suc (suc m)) bs ≡ none
+  none-leading m told e = rw (more-numbers, ← told, e)
+
+  pub some-leading :
+      (m v n : ℕ) {rest : List ℕ}
+      → r ≡ leadingNumber bs
+      → r ≡ Number v n
+      → rest ≡ drop n bs
+      → numbersOf (suc (suc m)) bs ≡ andThen v (numbersOf (suc m) rest)
+  some-leading m v n told e behind = rw (more-numbers, ← told, e, ← behind)
+
+  pub leading-fits : (v n : ℕ) → r ≡ leadingNumber bs → r ≡ Number v n → n ≤ length bs
+  leading-fits v n told e = leading-within bs v n (sym told ∙ e)

@@ -1,8 +1,8 @@
 -- A word at the front of a text, one byte at a time, and what it leaves.
-use Prim.Native.Nat.{ℕ, suc, _+_, _≤_, _<_}
+use Prim.Native.Nat.{ℕ, _+_, _≤_, _<_}
 use native.Mathlib.Omega.{arith}
 use native.Mathlib.Numerals.{add-one}
-use mathlib.Core.Path.{_≡_, refl}
+use mathlib.Core.Path.{_≡_, refl, sym, _∙_}
 use mathlib.Core.Bool.{Bool, true, false, cond}
 use mathlib.Core.List.{List, [], _∷_}
 use lib.ListN.{length, drop, getD, drop-of-length-le}
@@ -44,11 +44,14 @@ begun-rest : (w b : ℕ) (ws bs : List ℕ) → isAfter (afterWord (w ∷ ws) (b
 unfolding afterWord
 begun-rest w b ws bs e = rw (same-byte (eqb w b) (afterWord ws bs) e) at e
 
-pub begun-length : (w bs : List ℕ) → isAfter (afterWord w bs) ≡ true → length w ≤ length bs
+begun-length : (w bs : List ℕ) → isAfter (afterWord w bs) ≡ true → length w ≤ length bs
 unfolding afterWord
 begun-length [] bs e = omega arith
 begun-length (w ∷ ws) [] e = let z : _≡_ {A = ℕ} 0 1 = cc in omega arith
 begun-length (w ∷ ws) (b ∷ bs) e = omega (arith, begun-length ws bs (begun-rest w b ws bs e))
+
+pub word-fits : (w bs : List ℕ) {begins : Bool} → begins ≡ isAfter (afterWord w bs) → begins ≡ true → length w ≤ length bs
+word-fits w bs told e = begun-length w bs (sym told ∙ e)
 
 pub begun : (w bs : List ℕ) → isAfter (afterWord w bs) ≡ true → afterWord w bs ≡ after (drop (length w) bs)
 unfolding afterWord

@@ -1,7 +1,8 @@
 -- Tests joined, taken apart and put together.
-use mathlib.Core.Path.{_≡_, refl, ap, _∙_}
+use mathlib.Core.Path.{_≡_, refl, sym, ap, _∙_}
 use mathlib.Core.Logic.{_⊎_, inl, inr, ⊎-elim}
 use mathlib.Core.Bool.{Bool, true, false, not, _&&_, _||_, Bool·beq, false≢true}
+use borrow.Author.Tests.{not-true, not-false}
 use Rattle.records.specs.Places.{implies}
 
 pub and-left : (a b : Bool) → (a && b) ≡ true → a ≡ true
@@ -71,3 +72,10 @@ same-make true true f g = refl
 same-make true false f g = absurd (false≢true (f refl))
 same-make false true f g = absurd (false≢true (g refl))
 same-make false false f g = refl
+
+-- what a test that a function made is, from the arm of an `if !` that its answer r led into
+pub told-false : {r s : Bool} → r ≡ s → not r ≡ true → s ≡ false
+told-false {r} told taken = sym told ∙ not-true r taken
+
+pub told-true : {r s : Bool} → r ≡ s → not r ≡ false → s ≡ true
+told-true {r} told left = sym told ∙ not-false r left

@@ -12,24 +12,38 @@ use Rattle.records.proofs.FlagLaws.{by-test}
 use Rattle.records.proofs.PlaceLaws.{below-each}
 
 -- the flag of a loop over a list's room takes in one more element
-pub room-on {ℓ} : {A : Type ℓ} (f : A → Bool) (l : List A) (d : A) (n i : ℕ) (fine next : Bool) → i < length l → allOf f (drop n l) ≡ (fine && allOf f (drop i l)) → next ≡ (fine && f (getD l i d)) → allOf f (drop n l) ≡ (next && allOf f (drop (i + 1) l))
+pub room-on {ℓ} :
+    {A : Type ℓ} (f : A → Bool) (l : List A) (d : A) (n i : ℕ) (fine next : Bool)
+    → allOf f (drop n l) ≡ (fine && allOf f (drop i l))
+    → next ≡ (fine && f (getD l i d))
+    → i < length l
+    → allOf f (drop n l) ≡ (next && allOf f (drop (i + 1) l))
 unfolding allOf
-room-on f l d n i fine next h so step =
+room-on f l d n i fine next so step more =
     so ∙ rw (step, add-one, drop-cons l i d) (sym (and-assoc fine (f (getD l i d)) (allOf f (drop (suc i) l))))
 
 -- at the end of the list the flag is the whole answer
-pub room-end {ℓ} : {A : Type ℓ} (f : A → Bool) (l : List A) (n i : ℕ) (fine : Bool) → length l ≤ i → allOf f (drop n l) ≡ (fine && allOf f (drop i l)) → fine ≡ allOf f (drop n l)
+pub room-end {ℓ} :
+    {A : Type ℓ} (f : A → Bool) (l : List A) (n i : ℕ) (fine : Bool)
+    → allOf f (drop n l) ≡ (fine && allOf f (drop i l))
+    → length l ≤ i
+    → fine ≡ allOf f (drop n l)
 unfolding allOf
-room-end f l n i fine h so = sym (so ∙ rw (drop-of-length-le l h) (and-true fine))
+room-end f l n i fine so over = sym (so ∙ rw (drop-of-length-le l over) (and-true fine))
 
 -- the flag of a loop over places takes in one more place
-pub below-on : (f : ℕ → Bool) (i : ℕ) (fine found next : Bool) → fine ≡ allBelow i f → found ≡ f i → next ≡ (found && fine) → next ≡ allBelow (i + 1) f
+pub below-on :
+    (f : ℕ → Bool) (i : ℕ) (fine found next : Bool)
+    → fine ≡ allBelow i f
+    → found ≡ f i
+    → next ≡ (found && fine)
+    → next ≡ allBelow (i + 1) f
 unfolding allBelow
 below-on f i fine found next so this step = rw (step, this, so, add-one)
 
 -- where the places are used up the flag is the whole answer
-pub below-end : (f : ℕ → Bool) (n i : ℕ) (fine : Bool) → i ≤ n → n ≤ i → fine ≡ allBelow i f → fine ≡ allBelow n f
-below-end f n i fine low high so = let same : i ≡ n = omega arith in rw same at so
+pub below-end : (f : ℕ → Bool) (n i : ℕ) (fine : Bool) → (i ≤ n) × (fine ≡ allBelow i f) → n ≤ i → fine ≡ allBelow n f
+below-end f n i fine so over = let same : i ≡ n = omega arith in rw same at (so .1)
 
 -- one place that fails is enough
 pub below-off : (f : ℕ → Bool) (n i : ℕ) → i < n → f i ≡ false → false ≡ allBelow n f

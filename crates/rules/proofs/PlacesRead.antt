@@ -38,12 +38,19 @@ agentRight sites agents lock i x y =
     && (family agents (agentNo i) x y
     && (mapRight x && Bool·beq (heldForMove lock (agentNo i)) (isMoving (x .phase))))
 
-pub agent-read : (sites agents : ℕ) (lock : Lock) (agent : List Agent) (i p : ℕ) (named : AgentNo) → agents ≤ 64 → named ≡ peerOf (agentIn agent (agentNo i) .phase) → (named .0 < 64 → p ≡ named .0) → agentRight sites agents lock i (agentIn agent (agentNo i)) (getD agent p emptyAgent) ≡ agentFine sites agents lock agent i
-unfolding agentFine
-agent-read sites agents lock agent i p named few name right =
-    cc (family-same agents (agentNo i) (agentIn agent (agentNo i)) (getD agent p emptyAgent)
-    (agentIn agent (peerOf (agentIn agent (agentNo i) .phase)))
-    (placed agent (peerOf (agentIn agent (agentNo i) .phase)) agents p few (rw name at right)))
+module _ (sites agents : ℕ) (lock : Lock) (agent : List Agent) (i p : ℕ) (named : AgentNo) where
+  abbrev one : Agent
+  one = agentIn agent (agentNo i)
+
+  pub agent-read :
+      agents ≤ 64
+      → named ≡ peerOf (one .phase)
+      → (named .0 < 64 → p ≡ named .0)
+      → agentRight sites agents lock i one (getD agent p emptyAgent) ≡ agentFine sites agents lock agent i
+  unfolding agentFine
+  agent-read few name right =
+      rw (family-same agents (agentNo i) one (getD agent p emptyAgent) (agentIn agent (peerOf (one .phase)))
+      (placed agent (peerOf (one .phase)) agents p few (rw name at right)))
 
 -- what is asked of one message from a to b, with the agents x and y that were read for them
 abbrev pub messageRight : ℕ → Lock → ℕ → AgentNo → AgentNo → Agent → Agent → Status → Bool
@@ -52,7 +59,11 @@ messageRight agents lock i a b x y s =
     && (implies (isOut s) (sameSite (travelsTo s) (y .site))
     && (Bool·beq (heldForMail lock (mailNo i)) (isUnderWay s) && not (isLost s)))
 
-message-same : (agents : ℕ) (lock : Lock) (i : ℕ) (a b : AgentNo) (x y v w : Agent) (s : Status) → (a .0 < agents → x ≡ v) → (b .0 < agents → y ≡ w) → messageRight agents lock i a b x y s ≡ messageRight agents lock i a b v w s
+message-same :
+    (agents : ℕ) (lock : Lock) (i : ℕ) (a b : AgentNo) (x y v w : Agent) (s : Status)
+    → (a .0 < agents → x ≡ v)
+    → (b .0 < agents → y ≡ w)
+    → messageRight agents lock i a b x y s ≡ messageRight agents lock i a b v w s
 message-same agents lock i a b x y v w s from to =
     by-test (ltb (a .0) agents)
     (λ sends.
@@ -61,13 +72,22 @@ message-same agents lock i a b x y v w s from to =
     (λ gone. simp (sends, gone)))
     (λ gone. simp gone)
 
-pub message-read : (agents : ℕ) (lock : Lock) (agent : List Agent) (sender addressee : List AgentNo) (status : List Stand) (i p q : ℕ) → agents ≤ 64 → (partyIn sender (mailNo i) .0 < 64 → p ≡ partyIn sender (mailNo i) .0) → (partyIn addressee (mailNo i) .0 < 64 → q ≡ partyIn addressee (mailNo i) .0) → messageRight agents lock i (partyIn sender (mailNo i)) (partyIn addressee (mailNo i)) (getD agent p emptyAgent) (getD agent q emptyAgent) (statusIn status (mailNo i)) ≡ messageFine agents lock agent sender addressee status i
-unfolding messageFine
-message-read agents lock agent sender addressee status i p q few from to =
-    message-same agents lock i (partyIn sender (mailNo i)) (partyIn addressee (mailNo i)) (getD agent p emptyAgent)
-    (getD agent q emptyAgent)
-    (agentIn agent (partyIn sender (mailNo i)))
-    (agentIn agent (partyIn addressee (mailNo i)))
-    (statusIn status (mailNo i))
-    (placed agent (partyIn sender (mailNo i)) agents p few from)
-    (placed agent (partyIn addressee (mailNo i)) agents q few to)
+module _ (agents : ℕ) (lock : Lock) (agent : List Agent) (sender addressee : List AgentNo) (status : List Stand) (i p q : ℕ) where
+  abbrev from : AgentNo
+  from = partyIn sender (mailNo i)
+
+  abbrev to : AgentNo
+  to = partyIn addressee (mailNo i)
+
+  pub message-read :
+      agents ≤ 64
+      → (from .0 < 64 → p ≡ from .0)
+      → (to .0 < 64 → q ≡ to .0)
+      → messageRight agents lock i from to (getD agent p emptyAgent) (getD agent q emptyAgent) (statusIn status (mailNo i))
+      ≡ messageFine agents lock agent sender addressee status i
+  unfolding messageFine
+  message-read few sends gets =
+      message-same agents lock i from to (getD agent p emptyAgent) (getD agent q emptyAgent) (agentIn agent from) (agentIn agent to)
+      (statusIn status (mailNo i))
+      (placed agent from agents p few sends)
+      (placed agent to agents q few gets)

@@ -43,7 +43,15 @@ module _ (t : State) where
     pub statuses : statusRoom (t .messages) (t .status) ≡ true
     pub entries : logRoom (t .handed) (t .log) ≡ true
 
-  message-empty : partyRoom (t .messages) (t .sender) ≡ true → numberRoom (t .messages) (t .number) ≡ true → partyRoom (t .messages) (t .addressee) ≡ true → numberRoom (t .messages) (t .value) ≡ true → statusRoom (t .messages) (t .status) ≡ true → (i : ℕ) → t .messages ≤ i → messageAt t (mailNo i) ≡ emptyMessage
+  message-empty :
+      partyRoom (t .messages) (t .sender) ≡ true
+      → numberRoom (t .messages) (t .number) ≡ true
+      → partyRoom (t .messages) (t .addressee) ≡ true
+      → numberRoom (t .messages) (t .value) ≡ true
+      → statusRoom (t .messages) (t .status) ≡ true
+      → (i : ℕ)
+      → t .messages ≤ i
+      → messageAt t (mailNo i) ≡ emptyMessage
   unfolding partyRoom numberRoom statusRoom
   message-empty hs hn ha hv hu i le =
       λ k.

@@ -33,7 +33,15 @@ module _ (t : State) where
   messageTest = messageFine (t .agents) (lockOf t) (t .agent) (t .sender) (t .addressee) (t .status)
 
   -- a sound table, from what the parts of the test say
-  gathered : CountsInRange t → RoomTests t → ((a : AgentNo) → IsAgent t a → AgentRight t a) → lockThere (t .agents) (t .messages) (lockOf t) ≡ true → ((m : MailNo) → IsMessage t m → MessageRight t m) → numbersRun (t .sender) (t .number) (t .messages) 0 noCounts ≡ true → logRuns (t .messages) (t .status) (t .log) (t .handed) 0 noMarks ≡ true → Sound t
+  gathered :
+      CountsInRange t
+      → RoomTests t
+      → ((a : AgentNo) → IsAgent t a → AgentRight t a)
+      → lockThere (t .agents) (t .messages) (lockOf t) ≡ true
+      → ((m : MailNo) → IsMessage t m → MessageRight t m)
+      → numbersRun (t .sender) (t .number) (t .messages) 0 noCounts ≡ true
+      → logRuns (t .messages) (t .status) (t .log) (t .handed) 0 noMarks ≡ true
+      → Sound t
   gathered counts room agent there message numbers log =
       record {
         counts = counts;

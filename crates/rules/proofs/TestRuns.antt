@@ -25,16 +25,24 @@ log-start messages status log h seen = let whole : h - 0 ≡ h = omega arith in 
 one-less : (m i : ℕ) → i < m → m - i ≡ suc (m - (i + 1))
 one-less m i h = omega arith
 
-pub numbers-on : (sender : List AgentNo) (number : List ℕ) (m i : ℕ) (counts : List ℕ) (fine : Bool) → i < m
-    → (fine && numbersRun sender number (m - i) i counts)
-    ≡ ((fine && eqb (getD number i 0) (getD counts (partyIn sender (mailNo i) .0) 0 + 1)) && numbersRun sender number (m - (i + 1)) (i + 1) (set counts (partyIn sender (mailNo i) .0) (getD counts (partyIn sender (mailNo i) .0) 0 + 1)))
-unfolding numbersRun
-numbers-on sender number m i counts fine h =
-    rw (one-less m i h, add-one (getD counts (partyIn sender (mailNo i) .0) 0), add-one i) (sym (and-assoc fine _ _))
+module _ (sender : List AgentNo) (number : List ℕ) (m i : ℕ) (counts : List ℕ) (fine : Bool) where
+  -- the sender of the message at i, and the number that it has to have
+  abbrev who : ℕ
+  who = partyIn sender (mailNo i) .0
 
-pub numbers-end : (sender : List AgentNo) (number : List ℕ) (m i : ℕ) (counts : List ℕ) (fine : Bool) → m ≤ i → (fine && numbersRun sender number (m - i) i counts) ≡ fine
-unfolding numbersRun
-numbers-end sender number m i counts fine h = let none : m - i ≡ 0 = omega arith in rw none (and-true fine)
+  abbrev due : ℕ
+  due = getD counts who 0 + 1
+
+  pub numbers-on :
+      i < m
+      → (fine && numbersRun sender number (m - i) i counts)
+      ≡ ((fine && eqb (getD number i 0) due) && numbersRun sender number (m - (i + 1)) (i + 1) (set counts who due))
+  unfolding numbersRun
+  numbers-on h = rw (one-less m i h, add-one (getD counts who 0), add-one i) (sym (and-assoc fine _ _))
+
+  pub numbers-end : m ≤ i → (fine && numbersRun sender number (m - i) i counts) ≡ fine
+  unfolding numbersRun
+  numbers-end h = let none : m - i ≡ 0 = omega arith in rw none (and-true fine)
 
 -- no count is above 0 at the start
 pub no-counts : (n k : ℕ) → getD (replicate n 0) k 0 ≤ 0
@@ -50,9 +58,14 @@ counts-on (x ∷ l) zero i v new old (suc k) = omega (arith, old (suc k))
 counts-on (x ∷ l) (suc p) i v new old zero = omega (arith, old zero)
 counts-on (x ∷ l) (suc p) i v new old (suc k) = counts-on l p i v new (λ j. old (suc j)) k
 
-pub log-on : (messages : ℕ) (status : List Stand) (log : List MailNo) (h i : ℕ) (seen : List Bool) (fine : Bool) (p : ℕ) → i < h → messages ≤ 512 → (entryIn log i .0 < 512 → p ≡ entryIn log i .0)
+pub log-on :
+    (messages : ℕ) (status : List Stand) (log : List MailNo) (h i : ℕ) (seen : List Bool) (fine : Bool) (p : ℕ)
+    → i < h
+    → messages ≤ 512
+    → (entryIn log i .0 < 512 → p ≡ entryIn log i .0)
     → (fine && logRuns messages status log (h - i) i seen)
-    ≡ ((fine && (ltb (entryIn log i .0) messages && not (getD seen p false))) && logRuns messages status log (h - (i + 1)) (i + 1) (set seen p true))
+    ≡ ((fine && (ltb (entryIn log i .0) messages && not (getD seen p false)))
+    && logRuns messages status log (h - (i + 1)) (i + 1) (set seen p true))
 unfolding logRuns
 log-on messages status log h i seen fine p more few right =
     by-test (ltb (entryIn log i .0) messages)

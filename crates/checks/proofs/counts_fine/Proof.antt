@@ -1,4 +1,4 @@
--- `soundness::counts_fine` meets its contract.
+-- `checks::counts_fine` meets its contract.
 use borrow.Author.Needs.{needs}
 use Rattle.checks.proofs.counts_fine.Statement.{statement}
 use Rattle.checks.proofs.counts_fine.Tie as tie
@@ -21,7 +21,11 @@ both-requires-5 c κs = search needs
 
 returns : tie.Need-returns
 unfolding countsFine
-returns c = rw (c .both5 .ensures, c .before .both4 .ensures, c .before .before .both3 .ensures, c .before .before .before .both2 .ensures, c .before .before .before .before .both .ensures)
+returns c =
+    let at-both3 = c .before .before in
+    let at-both2 = at-both3 .before in
+    let at-both = at-both2 .before in
+    rw (c .both5 .ensures, c .before .both4 .ensures, at-both3 .both3 .ensures, at-both2 .both2 .ensures, at-both .both .ensures)
 
 pub counts-fine-spec : {M : Type 1} → statement M
 counts-fine-spec =

@@ -1,4 +1,4 @@
--- `soundness::lock_there` meets its contract.
+-- `checks::lock_there` meets its contract.
 use borrow.Author.Needs.{needs}
 use Rattle.checks.proofs.lock_there.Statement.{statement}
 use Rattle.checks.proofs.lock_there.Tie as tie
@@ -16,10 +16,10 @@ returns : tie.Need-returns
 returns c = search needs
 
 returns-2 : tie.Need-returns-2
-returns-2 c = cc
+returns-2 c = rw (c .before .before .lock .given .1)
 
 returns-3 : tie.Need-returns-3
-returns-3 c = cc
+returns-3 c = rw (c .before .before .lock2 .given .1)
 
 pub lock-there-spec : {M : Type 1} → statement M
 lock-there-spec =

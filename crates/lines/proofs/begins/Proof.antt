@@ -1,4 +1,4 @@
--- `script::reading::begins` meets its contract.
+-- `lines::begins` meets its contract.
 use Prim.Native.Nat.{_≤_, _-_}
 use mathlib.Core.Path.{_≡_, refl, ap, sym, _∙_}
 use native.Mathlib.Omega.{arith}
@@ -20,7 +20,12 @@ loop-holds : tie.Need-loop-holds Inv-loop μ-loop
 loop-holds c = (omega arith, (omega arith, refl))
 
 returns : tie.Need-returns Inv-loop μ-loop
-returns c = sym (ap isAfter (c .before .before .loop .inv .1 .1 ∙ word-short (c .before .before .before .args .word .now) (c .before .before .before .args .text .now) (c .before .before .loop .i) (omega arith) (c .if1 .taken)))
+returns c =
+    let at-loop = c .before .before in
+    let text = at-loop .before .args .text .now in
+    let word = at-loop .before .args .word .now in
+    let loop = at-loop .loop in
+    sym (ap isAfter (loop .inv .1 .1 ∙ word-short word text (loop .i) (omega arith) (c .if1 .taken)))
 
 shared-slice-read-if2 : tie.Need-shared-slice-read-if2 Inv-loop μ-loop
 shared-slice-read-if2 c = omega arith
@@ -29,7 +34,12 @@ shared-slice-read-if2-2 : tie.Need-shared-slice-read-if2-2 Inv-loop μ-loop
 shared-slice-read-if2-2 c = omega arith
 
 returns-2 : tie.Need-returns-2 Inv-loop μ-loop
-returns-2 c = sym (ap isAfter (c .before .before .before .before .before .loop .inv .1 .1 ∙ word-differs (c .before .before .before .before .before .before .args .word .now) (c .before .before .before .before .before .before .args .text .now) (c .before .before .before .before .before .loop .i) (omega arith) (omega arith) (c .if2 .taken)))
+returns-2 c =
+    let at-loop = c .before .before .before .before .before in
+    let text = at-loop .before .args .text .now in
+    let word = at-loop .before .args .word .now in
+    let loop = at-loop .loop in
+    sym (ap isAfter (loop .inv .1 .1 ∙ word-differs word text (loop .i) (omega arith) (omega arith) (c .if2 .taken)))
 
 add-i : tie.Need-add-i Inv-loop μ-loop
 add-i c = omega arith
@@ -38,10 +48,20 @@ loop-less : tie.Need-loop-less Inv-loop μ-loop
 loop-less c = omega arith
 
 loop-again : tie.Need-loop-again Inv-loop μ-loop
-loop-again c = (omega arith, (omega arith, c .before .before .before .before .before .loop .inv .1 .1 ∙ word-on (c .before .before .before .before .before .before .args .word .now) (c .before .before .before .before .before .before .args .text .now) (c .before .before .before .before .before .loop .i) (omega arith) (omega arith) (c .if2 .left)))
+loop-again c =
+    let at-loop = c .before .before .before .before .before in
+    let text = at-loop .before .args .text .now in
+    let word = at-loop .before .args .word .now in
+    let loop = at-loop .loop in
+    (omega arith, (omega arith, loop .inv .1 .1 ∙ word-on word text (loop .i) (omega arith) (omega arith) (c .if2 .left)))
 
 returns-3 : tie.Need-returns-3 Inv-loop μ-loop
-returns-3 c = sym (ap isAfter (c .before .loop .inv .1 .1 ∙ word-whole (c .before .before .args .word .now) (drop (c .before .loop .i) (c .before .before .args .text .now)) (c .before .loop .i) (omega arith)))
+returns-3 c =
+    let at-loop = c .before in
+    let text = at-loop .before .args .text .now in
+    let word = at-loop .before .args .word .now in
+    let loop = at-loop .loop in
+    sym (ap isAfter (loop .inv .1 .1 ∙ word-whole word (drop (loop .i) text) (loop .i) (omega arith)))
 
 pub begins-spec : {M : Type 1} → statement M
 begins-spec =

@@ -1,7 +1,5 @@
--- `script::reading::read_ask` meets its contract.
-use mathlib.Core.Path.{sym, _∙_}
-use denote.Ref.{now}
-use Rattle.grammar.proofs.NumberParts.{one-number, more-numbers, leading-within}
+-- `lines::read_ask` meets its contract.
+use Rattle.grammar.proofs.NumberParts.{none-last, some-last, none-leading, some-leading, leading-fits}
 use borrow.Author.Needs.{needs}
 use Rattle.lines.proofs.read_ask.Statement.{statement}
 use Rattle.lines.proofs.read_ask.Tie as tie
@@ -16,10 +14,10 @@ enum-told : tie.Need-enum-told
 enum-told c = search needs
 
 returns : tie.Need-returns
-returns c = rw (more-numbers 0 (c .before .before .before .before .args .text .now), ← c .before .before .leading-number .ensures, c .enum-told .given .1)
+returns c = rw (none-leading _ 0 (c .before .before .leading-number .ensures) (c .enum-told .given .1))
 
 rest-of-requires : tie.Need-rest-of-requires
-rest-of-requires c κs = leading-within (c .before .before .before .before .before .args .text .now) (c .before .a .given .0 .0) (c .before .a .given .0 .1 .0) (sym (c .before .before .before .leading-number .ensures) ∙ c .before .a .given .1)
+rest-of-requires c κs = search leading-fits
 
 last-number-requires : tie.Need-last-number-requires
 last-number-requires c κs = search needs
@@ -31,10 +29,25 @@ enum-told-2 : tie.Need-enum-told-2
 enum-told-2 c = search needs
 
 returns-2 : tie.Need-returns-2
-returns-2 c = rw (more-numbers 0 (c .before .before .before .before .before .before .before .before .before .args .text .now), ← c .before .before .before .before .before .before .before .leading-number .ensures, c .before .before .before .before .before .a .given .1, ← c .before .before .before .rest-of .ensures, one-number (now (c .before .before .before .rest-of .result)), ← c .before .before .last-number .ensures, c .enum-told2 .given .1)
+returns-2 c =
+    let at-rest = c .before .before .before in
+    let at-a = at-rest .before .before in
+    let leading = at-a .before .before .leading-number in
+    rw (
+      some-leading _ 0 _ _ (leading .ensures) (at-a .a .given .1) (at-rest .rest-of .ensures),
+      none-last _ (c .before .before .last-number .ensures) (c .enum-told2 .given .1),
+    )
 
 returns-3 : tie.Need-returns-3
-returns-3 c = rw (more-numbers 0 (c .before .before .before .before .before .before .before .before .before .before .args .text .now), ← c .before .before .before .before .before .before .before .before .leading-number .ensures, c .before .before .before .before .before .before .a .given .1, ← c .before .before .before .before .rest-of .ensures, one-number (now (c .before .before .before .before .rest-of .result)), ← c .before .before .before .last-number .ensures, c .before .u .given .1)
+returns-3 c =
+    let at-last = c .before .before .before in
+    let at-rest = at-last .before in
+    let at-a = at-rest .before .before in
+    let leading = at-a .before .before .leading-number in
+    rw (
+      some-leading _ 0 _ _ (leading .ensures) (at-a .a .given .1) (at-rest .rest-of .ensures),
+      some-last _ _ _ (at-last .last-number .ensures) (c .before .u .given .1),
+    )
 
 pub read-ask-spec : {M : Type 1} → statement M
 read-ask-spec =

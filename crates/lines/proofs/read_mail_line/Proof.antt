@@ -1,10 +1,6 @@
--- `script::reading::read_mail_line` meets its contract.
-use mathlib.Core.Path.{refl, sym, _∙_}
-use lib.ListN.{drop}
-use Rattle.grammar.specs.declared.Word.the-variants.{Forwarding, Handing, Closing}
-use Rattle.grammar.specs.LineParts.{wordKind, mailKinds}
+-- `lines::read_mail_line` meets its contract.
 use Rattle.grammar.proofs.LineKinds.{passed, met}
-use Rattle.grammar.proofs.Words.{begun-length}
+use Rattle.grammar.proofs.Words.{word-fits}
 use Rattle.grammar.specs.Grammar.{lineAmong}
 use borrow.Author.Needs.{needs}
 use Rattle.lines.proofs.read_mail_line.Statement.{statement}
@@ -17,13 +13,13 @@ begins-requires : tie.Need-begins-requires
 begins-requires c κs = search needs
 
 rest-of-requires : tie.Need-rest-of-requires
-rest-of-requires c κs = begun-length (wordKind Forwarding .word) (c .before .before .before .before .args .line .now) (sym (c .before .begins .ensures) ∙ c .if1 .taken)
+rest-of-requires c κs = word-fits _ _ (c .before .begins .ensures) (c .if1 .taken)
 
 read-one-requires : tie.Need-read-one-requires
 read-one-requires c κs = search needs
 
 returns : tie.Need-returns
-returns c = met (wordKind Forwarding) (drop 1 mailKinds) (c .before .before .before .before .before .before .args .line .now) (sym (c .before .before .before .begins .ensures) ∙ c .before .before .if1 .taken) (c .before .rest-of .ensures) (c .read-one .ensures)
+returns c = search met
 
 slice-aggregate-begins-2 : tie.Need-slice-aggregate-begins-2
 slice-aggregate-begins-2 c = search needs
@@ -32,13 +28,13 @@ begins-requires-2 : tie.Need-begins-requires-2
 begins-requires-2 c κs = search needs
 
 rest-of-requires-2 : tie.Need-rest-of-requires-2
-rest-of-requires-2 c κs = begun-length (wordKind Handing .word) (c .before .before .before .before .before .before .before .args .line .now) (sym (c .before .begins2 .ensures) ∙ c .if2 .taken)
+rest-of-requires-2 c κs = word-fits _ _ (c .before .begins2 .ensures) (c .if2 .taken)
 
 read-one-requires-2 : tie.Need-read-one-requires-2
 read-one-requires-2 c κs = search needs
 
 returns-2 : tie.Need-returns-2
-returns-2 c = passed (wordKind Forwarding) (drop 1 mailKinds) (c .before .before .before .before .before .before .before .before .before .args .line .now) (sym (c .before .before .before .before .before .before .begins .ensures) ∙ c .before .before .before .before .before .if1 .left) (met (wordKind Handing) (drop 2 mailKinds) (c .before .before .before .before .before .before .before .before .before .args .line .now) (sym (c .before .before .before .begins2 .ensures) ∙ c .before .before .if2 .taken) (c .before .rest-of2 .ensures) (c .read-one2 .ensures))
+returns-2 c = search (passed, met)
 
 slice-aggregate-begins-3 : tie.Need-slice-aggregate-begins-3
 slice-aggregate-begins-3 c = search needs
@@ -47,17 +43,17 @@ begins-requires-3 : tie.Need-begins-requires-3
 begins-requires-3 c κs = search needs
 
 rest-of-requires-3 : tie.Need-rest-of-requires-3
-rest-of-requires-3 c κs = begun-length (wordKind Closing .word) (c .before .before .before .before .before .before .before .before .before .before .args .line .now) (sym (c .before .begins3 .ensures) ∙ c .if3 .taken)
+rest-of-requires-3 c κs = word-fits _ _ (c .before .begins3 .ensures) (c .if3 .taken)
 
 read-one-requires-3 : tie.Need-read-one-requires-3
 read-one-requires-3 c κs = search needs
 
 returns-3 : tie.Need-returns-3
-returns-3 c = passed (wordKind Forwarding) (drop 1 mailKinds) (c .before .before .before .before .before .before .before .before .before .before .before .before .args .line .now) (sym (c .before .before .before .before .before .before .before .before .before .begins .ensures) ∙ c .before .before .before .before .before .before .before .before .if1 .left) (passed (wordKind Handing) (drop 2 mailKinds) (c .before .before .before .before .before .before .before .before .before .before .before .before .args .line .now) (sym (c .before .before .before .before .before .before .begins2 .ensures) ∙ c .before .before .before .before .before .if2 .left) (met (wordKind Closing) (drop 3 mailKinds) (c .before .before .before .before .before .before .before .before .before .before .before .before .args .line .now) (sym (c .before .before .before .begins3 .ensures) ∙ c .before .before .if3 .taken) (c .before .rest-of3 .ensures) (c .read-one3 .ensures)))
+returns-3 c = search (passed, met)
 
 returns-4 : tie.Need-returns-4
 unfolding lineAmong
-returns-4 c = passed (wordKind Forwarding) (drop 1 mailKinds) (c .before .before .before .before .before .before .before .before .before .before .args .line .now) (sym (c .before .before .before .before .before .before .before .begins .ensures) ∙ c .before .before .before .before .before .before .if1 .left) (passed (wordKind Handing) (drop 2 mailKinds) (c .before .before .before .before .before .before .before .before .before .before .args .line .now) (sym (c .before .before .before .before .begins2 .ensures) ∙ c .before .before .before .if2 .left) (passed (wordKind Closing) (drop 3 mailKinds) (c .before .before .before .before .before .before .before .before .before .before .args .line .now) (sym (c .before .begins3 .ensures) ∙ c .if3 .left) (refl)))
+returns-4 c = search passed
 
 pub read-mail-line-spec : {M : Type 1} → statement M
 read-mail-line-spec =

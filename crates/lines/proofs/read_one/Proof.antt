@@ -1,5 +1,5 @@
--- `script::reading::read_one` meets its contract.
-use Rattle.grammar.proofs.NumberParts.{one-number}
+-- `lines::read_one` meets its contract.
+use Rattle.grammar.proofs.NumberParts.{none-last, some-last}
 use borrow.Author.Needs.{needs}
 use Rattle.lines.proofs.read_one.Statement.{statement}
 use Rattle.lines.proofs.read_one.Tie as tie
@@ -14,13 +14,15 @@ enum-told : tie.Need-enum-told
 enum-told c = search needs
 
 returns : tie.Need-returns
-returns c = rw (one-number (c .before .before .before .before .args .text .now), ← c .before .before .last-number .ensures, c .enum-told .given .1)
+returns c = rw (none-last _ (c .before .before .last-number .ensures) (c .enum-told .given .1))
 
 word-says-requires : tie.Need-word-says-requires
 word-says-requires c κs = search needs
 
 returns-2 : tie.Need-returns-2
-returns-2 c = rw (one-number (c .before .before .before .before .before .before .args .text .now), ← c .before .before .before .before .last-number .ensures, c .before .before .value .given .1) (c .word-says .ensures)
+returns-2 c =
+    let at-value = c .before .before in
+    rw (some-last _ _ _ (at-value .before .before .last-number .ensures) (at-value .value .given .1)) (c .word-says .ensures)
 
 pub read-one-spec : {M : Type 1} → statement M
 read-one-spec =

@@ -1,7 +1,5 @@
--- `script::reading::read_send` meets its contract.
-use mathlib.Core.Path.{sym, _∙_}
-use denote.Ref.{now}
-use Rattle.grammar.proofs.NumberParts.{one-number, more-numbers, leading-within}
+-- `lines::read_send` meets its contract.
+use Rattle.grammar.proofs.NumberParts.{none-last, some-last, none-leading, some-leading, leading-fits}
 use borrow.Author.Needs.{needs}
 use Rattle.lines.proofs.read_send.Statement.{statement}
 use Rattle.lines.proofs.read_send.Tie as tie
@@ -16,10 +14,10 @@ enum-told : tie.Need-enum-told
 enum-told c = search needs
 
 returns : tie.Need-returns
-returns c = rw (more-numbers 2 (c .before .before .before .before .args .text .now), ← c .before .before .leading-number .ensures, c .enum-told .given .1)
+returns c = rw (none-leading _ 2 (c .before .before .leading-number .ensures) (c .enum-told .given .1))
 
 rest-of-requires : tie.Need-rest-of-requires
-rest-of-requires c κs = leading-within (c .before .before .before .before .before .args .text .now) (c .before .a .given .0 .0) (c .before .a .given .0 .1 .0) (sym (c .before .before .before .leading-number .ensures) ∙ c .before .a .given .1)
+rest-of-requires c κs = search leading-fits
 
 leading-number-requires-2 : tie.Need-leading-number-requires-2
 leading-number-requires-2 c κs = search needs
@@ -31,10 +29,17 @@ enum-told-2 : tie.Need-enum-told-2
 enum-told-2 c = search needs
 
 returns-2 : tie.Need-returns-2
-returns-2 c = rw (more-numbers 2 (c .before .before .before .before .before .before .before .before .before .args .text .now), ← c .before .before .before .before .before .before .before .leading-number .ensures, c .before .before .before .before .before .a .given .1, ← c .before .before .before .rest-of .ensures, more-numbers 1 (now (c .before .before .before .rest-of .result)), ← c .before .before .leading-number2 .ensures, c .enum-told2 .given .1)
+returns-2 c =
+    let at-rest = c .before .before .before in
+    let at-a = at-rest .before .before in
+    let leading = at-a .before .before .leading-number in
+    rw (
+      some-leading _ 2 _ _ (leading .ensures) (at-a .a .given .1) (at-rest .rest-of .ensures),
+      none-leading _ 1 (c .before .before .leading-number2 .ensures) (c .enum-told2 .given .1),
+    )
 
 rest-of-requires-2 : tie.Need-rest-of-requires-2
-rest-of-requires-2 c κs = leading-within (now (c .before .before .before .before .rest-of .result)) (c .before .n .given .0 .0) (c .before .n .given .0 .1 .0) (sym (c .before .before .before .leading-number2 .ensures) ∙ c .before .n .given .1)
+rest-of-requires-2 c κs = search leading-fits
 
 leading-number-requires-3 : tie.Need-leading-number-requires-3
 leading-number-requires-3 c κs = search needs
@@ -46,10 +51,21 @@ enum-told-3 : tie.Need-enum-told-3
 enum-told-3 c = search needs
 
 returns-3 : tie.Need-returns-3
-returns-3 c = rw (more-numbers 2 (c .before .before .before .before .before .before .before .before .before .before .before .before .before .before .args .text .now), ← c .before .before .before .before .before .before .before .before .before .before .before .before .leading-number .ensures, c .before .before .before .before .before .before .before .before .before .before .a .given .1, ← c .before .before .before .before .before .before .before .before .rest-of .ensures, more-numbers 1 (now (c .before .before .before .before .before .before .before .before .rest-of .result)), ← c .before .before .before .before .before .before .before .leading-number2 .ensures, c .before .before .before .before .before .n .given .1, ← c .before .before .before .rest-of2 .ensures, more-numbers 0 (now (c .before .before .before .rest-of2 .result)), ← c .before .before .leading-number3 .ensures, c .enum-told3 .given .1)
+returns-3 c =
+    let at-rest2 = c .before .before .before in
+    let at-n = at-rest2 .before .before in
+    let leading2 = at-n .before .before .leading-number2 in
+    let at-rest = at-n .before .before .before in
+    let at-a = at-rest .before .before in
+    let leading = at-a .before .before .leading-number in
+    rw (
+      some-leading _ 2 _ _ (leading .ensures) (at-a .a .given .1) (at-rest .rest-of .ensures),
+      some-leading _ 1 _ _ (leading2 .ensures) (at-n .n .given .1) (at-rest2 .rest-of2 .ensures),
+      none-leading _ 0 (c .before .before .leading-number3 .ensures) (c .enum-told3 .given .1),
+    )
 
 rest-of-requires-3 : tie.Need-rest-of-requires-3
-rest-of-requires-3 c κs = leading-within (now (c .before .before .before .before .rest-of2 .result)) (c .before .b .given .0 .0) (c .before .b .given .0 .1 .0) (sym (c .before .before .before .leading-number3 .ensures) ∙ c .before .b .given .1)
+rest-of-requires-3 c κs = search leading-fits
 
 last-number-requires : tie.Need-last-number-requires
 last-number-requires c κs = search needs
@@ -61,10 +77,41 @@ enum-told-4 : tie.Need-enum-told-4
 enum-told-4 c = search needs
 
 returns-4 : tie.Need-returns-4
-returns-4 c = rw (more-numbers 2 (c .before .before .before .before .before .before .before .before .before .before .before .before .before .before .before .before .before .before .before .args .text .now), ← c .before .before .before .before .before .before .before .before .before .before .before .before .before .before .before .before .before .leading-number .ensures, c .before .before .before .before .before .before .before .before .before .before .before .before .before .before .before .a .given .1, ← c .before .before .before .before .before .before .before .before .before .before .before .before .before .rest-of .ensures, more-numbers 1 (now (c .before .before .before .before .before .before .before .before .before .before .before .before .before .rest-of .result)), ← c .before .before .before .before .before .before .before .before .before .before .before .before .leading-number2 .ensures, c .before .before .before .before .before .before .before .before .before .before .n .given .1, ← c .before .before .before .before .before .before .before .before .rest-of2 .ensures, more-numbers 0 (now (c .before .before .before .before .before .before .before .before .rest-of2 .result)), ← c .before .before .before .before .before .before .before .leading-number3 .ensures, c .before .before .before .before .before .b .given .1, ← c .before .before .before .rest-of3 .ensures, one-number (now (c .before .before .before .rest-of3 .result)), ← c .before .before .last-number .ensures, c .enum-told4 .given .1)
+returns-4 c =
+    let at-rest3 = c .before .before .before in
+    let at-b = at-rest3 .before .before in
+    let leading3 = at-b .before .before .leading-number3 in
+    let at-rest2 = at-b .before .before .before in
+    let at-n = at-rest2 .before .before in
+    let leading2 = at-n .before .before .leading-number2 in
+    let at-rest = at-n .before .before .before in
+    let at-a = at-rest .before .before in
+    let leading = at-a .before .before .leading-number in
+    rw (
+      some-leading _ 2 _ _ (leading .ensures) (at-a .a .given .1) (at-rest .rest-of .ensures),
+      some-leading _ 1 _ _ (leading2 .ensures) (at-n .n .given .1) (at-rest2 .rest-of2 .ensures),
+      some-leading _ 0 _ _ (leading3 .ensures) (at-b .b .given .1) (at-rest3 .rest-of3 .ensures),
+      none-last _ (c .before .before .last-number .ensures) (c .enum-told4 .given .1),
+    )
 
 returns-5 : tie.Need-returns-5
-returns-5 c = rw (more-numbers 2 (c .before .before .before .before .before .before .before .before .before .before .before .before .before .before .before .before .before .before .before .before .args .text .now), ← c .before .before .before .before .before .before .before .before .before .before .before .before .before .before .before .before .before .before .leading-number .ensures, c .before .before .before .before .before .before .before .before .before .before .before .before .before .before .before .before .a .given .1, ← c .before .before .before .before .before .before .before .before .before .before .before .before .before .before .rest-of .ensures, more-numbers 1 (now (c .before .before .before .before .before .before .before .before .before .before .before .before .before .before .rest-of .result)), ← c .before .before .before .before .before .before .before .before .before .before .before .before .before .leading-number2 .ensures, c .before .before .before .before .before .before .before .before .before .before .before .n .given .1, ← c .before .before .before .before .before .before .before .before .before .rest-of2 .ensures, more-numbers 0 (now (c .before .before .before .before .before .before .before .before .before .rest-of2 .result)), ← c .before .before .before .before .before .before .before .before .leading-number3 .ensures, c .before .before .before .before .before .before .b .given .1, ← c .before .before .before .before .rest-of3 .ensures, one-number (now (c .before .before .before .before .rest-of3 .result)), ← c .before .before .before .last-number .ensures, c .before .v .given .1)
+returns-5 c =
+    let at-last = c .before .before .before in
+    let at-rest3 = at-last .before in
+    let at-b = at-rest3 .before .before in
+    let leading3 = at-b .before .before .leading-number3 in
+    let at-rest2 = at-b .before .before .before in
+    let at-n = at-rest2 .before .before in
+    let leading2 = at-n .before .before .leading-number2 in
+    let at-rest = at-n .before .before .before in
+    let at-a = at-rest .before .before in
+    let leading = at-a .before .before .leading-number in
+    rw (
+      some-leading _ 2 _ _ (leading .ensures) (at-a .a .given .1) (at-rest .rest-of .ensures),
+      some-leading _ 1 _ _ (leading2 .ensures) (at-n .n .given .1) (at-rest2 .rest-of2 .ensures),
+      some-leading _ 0 _ _ (leading3 .ensures) (at-b .b .given .1) (at-rest3 .rest-of3 .ensures),
+      some-last _ _ _ (at-last .last-number .ensures) (c .before .v .given .1),
+    )
 
 pub read-send-spec : {M : Type 1} → statement M
 read-send-spec =

@@ -1,4 +1,4 @@
--- `script::reading::rest_of` meets its contract.
+-- `lines::rest_of` meets its contract.
 use Prim.Native.Nat.{_-_}
 use native.Mathlib.Omega.{arith}
 use lib.ListN.{length, drop, length-drop}
@@ -17,7 +17,9 @@ part-result-end : tie.Need-part-result-end
 part-result-end c = search needs
 
 returns : tie.Need-returns
-returns c = rw (take-all (length (c .before .args .text .now) - c .before .args .at) (drop (c .before .args .at) (c .before .args .text .now)) (simp length-drop (omega arith)))
+returns c =
+    let args = c .before .args in
+    rw (take-all (length (args .text .now) - args .at) (drop (args .at) (args .text .now)) (simp length-drop (omega arith)))
 
 pub rest-of-spec : {M : Type 1} → statement M
 rest-of-spec = tie.close (tie.spec sub-result part-result-start part-result-end returns)

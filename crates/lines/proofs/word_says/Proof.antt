@@ -1,4 +1,4 @@
--- `script::reading::word_says` meets its contract.
+-- `lines::word_says` meets its contract.
 use borrow.Author.Needs.{needs}
 use Rattle.lines.proofs.word_says.Statement.{statement}
 use Rattle.lines.proofs.word_says.Tie as tie

@@ -1,4 +1,4 @@
--- `soundness::agents::agent_fine` meets its contract.
+-- `checks::agents::agent_fine` meets its contract.
 use borrow.Author.Needs.{needs}
 use Rattle.checks.proofs.agents.agent_fine.Statement.{statement}
 use Rattle.checks.proofs.agents.agent_fine.Tie as tie
@@ -25,7 +25,21 @@ both-requires-3 : tie.Need-both-requires-3
 both-requires-3 c κs = search needs
 
 returns : tie.Need-returns
-returns c = rw (c .both3 .ensures, c .before .both2 .ensures, c .before .before .both .ensures, c .before .before .before .moves-locked .ensures, c .before .before .before .before .map-right .ensures, c .before .before .before .before .before .is-family .ensures, c .before .before .before .before .before .before .agent-sites .ensures)
+returns c =
+    let at-both = c .before .before in
+    let at-moves-locked = at-both .before in
+    let at-map-right = at-moves-locked .before in
+    let at-is-family = at-map-right .before in
+    let at-agent-sites = at-is-family .before in
+    rw (
+      c .both3 .ensures,
+      c .before .both2 .ensures,
+      at-both .both .ensures,
+      at-moves-locked .moves-locked .ensures,
+      at-map-right .map-right .ensures,
+      at-is-family .is-family .ensures,
+      at-agent-sites .agent-sites .ensures,
+    )
 
 pub agent-fine-spec : {M : Type 1} → statement M
 agent-fine-spec =

@@ -1,4 +1,4 @@
--- `soundness::agents::agent_sites` meets its contract.
+-- `checks::agents::agent_sites` meets its contract.
 use borrow.Author.Needs.{needs}
 use Rattle.checks.proofs.agents.agent_sites.Statement.{statement}
 use Rattle.checks.proofs.agents.agent_sites.Tie as tie
@@ -31,7 +31,25 @@ both-requires-2 : tie.Need-both-requires-2
 both-requires-2 c κs = search needs
 
 returns : tie.Need-returns
-returns c = rw (c .both2 .ensures, c .before .both .ensures, c .before .before .before .if-then2 .ensures, c .before .before .before .before .before .is-mapped .ensures, c .before .before .before .before .before .before .if-then .ensures, c .before .before .before .before .before .before .before .before .either .ensures, c .before .before .before .before .before .before .before .before .before .map-site .ensures, c .before .before .before .before .before .before .before .before .before .before .target-of .ensures, c .before .before .before .before .before .before .before .before .before .before .before .phase-kind .ensures)
+returns c =
+    let at-if-then2 = c .before .before .before in
+    let at-is-mapped = at-if-then2 .before .before in
+    let at-if-then = at-is-mapped .before in
+    let at-either = at-if-then .before .before in
+    let at-map-site = at-either .before in
+    let at-target-of = at-map-site .before in
+    let at-phase-kind = at-target-of .before in
+    rw (
+      c .both2 .ensures,
+      c .before .both .ensures,
+      at-if-then2 .if-then2 .ensures,
+      at-is-mapped .is-mapped .ensures,
+      at-if-then .if-then .ensures,
+      at-either .either .ensures,
+      at-map-site .map-site .ensures,
+      at-target-of .target-of .ensures,
+      at-phase-kind .phase-kind .ensures,
+    )
 
 pub agent-sites-spec : {M : Type 1} → statement M
 agent-sites-spec =

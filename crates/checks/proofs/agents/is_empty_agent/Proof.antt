@@ -1,4 +1,4 @@
--- `soundness::agents::is_empty_agent` meets its contract.
+-- `checks::agents::is_empty_agent` meets its contract.
 use borrow.Author.Needs.{needs}
 use Rattle.checks.proofs.agents.is_empty_agent.Statement.{statement}
 use Rattle.checks.proofs.agents.is_empty_agent.Tie as tie
@@ -19,7 +19,17 @@ both-requires-2 : tie.Need-both-requires-2
 both-requires-2 c κs = search needs
 
 returns : tie.Need-returns
-returns c = rw (c .both2 .ensures, c .before .both .ensures, c .before .before .before .opposite .ensures, c .before .before .before .before .is-mapped .ensures, c .before .before .before .before .before .phase-kind .ensures)
+returns c =
+    let at-opposite = c .before .before .before in
+    let at-is-mapped = at-opposite .before in
+    let at-phase-kind = at-is-mapped .before in
+    rw (
+      c .both2 .ensures,
+      c .before .both .ensures,
+      at-opposite .opposite .ensures,
+      at-is-mapped .is-mapped .ensures,
+      at-phase-kind .phase-kind .ensures,
+    )
 
 pub is-empty-agent-spec : {M : Type 1} → statement M
 is-empty-agent-spec =

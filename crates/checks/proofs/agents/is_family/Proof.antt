@@ -1,4 +1,4 @@
--- `soundness::agents::is_family` meets its contract.
+-- `checks::agents::is_family` meets its contract.
 use borrow.Author.Needs.{needs}
 use Rattle.checks.proofs.agents.is_family.Statement.{statement}
 use Rattle.checks.proofs.agents.is_family.Tie as tie
@@ -34,7 +34,27 @@ both-requires-3 : tie.Need-both-requires-3
 both-requires-3 c κs = search needs
 
 returns : tie.Need-returns
-returns c = rw (c .both3 .ensures, c .before .if-then2 .ensures, c .before .before .both2 .ensures, c .before .before .before .if-then .ensures, c .before .before .before .before .both .ensures, c .before .before .before .before .before .either2 .ensures, c .before .before .before .before .before .before .either .ensures, c .before .before .before .before .before .before .before .names-back .ensures, c .before .before .before .before .before .before .before .before .phase-kind2 .ensures, c .before .before .before .before .before .before .before .before .before .phase-kind .ensures)
+returns c =
+    let at-both2 = c .before .before in
+    let at-if-then = at-both2 .before in
+    let at-both = at-if-then .before in
+    let at-either2 = at-both .before in
+    let at-either = at-either2 .before in
+    let at-names-back = at-either .before in
+    let at-phase-kind2 = at-names-back .before in
+    let at-phase-kind = at-phase-kind2 .before in
+    rw (
+      c .both3 .ensures,
+      c .before .if-then2 .ensures,
+      at-both2 .both2 .ensures,
+      at-if-then .if-then .ensures,
+      at-both .both .ensures,
+      at-either2 .either2 .ensures,
+      at-either .either .ensures,
+      at-names-back .names-back .ensures,
+      at-phase-kind2 .phase-kind2 .ensures,
+      at-phase-kind .phase-kind .ensures,
+    )
 
 pub is-family-spec : {M : Type 1} → statement M
 is-family-spec =

@@ -1,4 +1,4 @@
--- `soundness::agents::map_right` meets its contract.
+-- `checks::agents::map_right` meets its contract.
 use borrow.Author.Needs.{needs}
 use Rattle.checks.proofs.agents.map_right.Statement.{statement}
 use Rattle.checks.proofs.agents.map_right.Tie as tie
@@ -28,7 +28,23 @@ both-requires : tie.Need-both-requires
 both-requires c κs = search needs
 
 returns : tie.Need-returns
-returns c = rw (c .both .ensures, c .before .either2 .ensures, c .before .before .either .ensures, c .before .before .before .before .before .same-flag .ensures, c .before .before .before .before .before .before .opposite .ensures, c .before .before .before .before .before .before .before .is-mapped .ensures, c .before .before .before .before .before .before .before .before .map-site .ensures, c .before .before .before .before .before .before .before .before .before .phase-kind .ensures)
+returns c =
+    let at-either = c .before .before in
+    let at-same-flag = at-either .before .before .before in
+    let at-opposite = at-same-flag .before in
+    let at-is-mapped = at-opposite .before in
+    let at-map-site = at-is-mapped .before in
+    let at-phase-kind = at-map-site .before in
+    rw (
+      c .both .ensures,
+      c .before .either2 .ensures,
+      at-either .either .ensures,
+      at-same-flag .same-flag .ensures,
+      at-opposite .opposite .ensures,
+      at-is-mapped .is-mapped .ensures,
+      at-map-site .map-site .ensures,
+      at-phase-kind .phase-kind .ensures,
+    )
 
 pub map-right-spec : {M : Type 1} → statement M
 map-right-spec =

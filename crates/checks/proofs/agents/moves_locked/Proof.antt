@@ -1,4 +1,4 @@
--- `soundness::agents::moves_locked` meets its contract.
+-- `checks::agents::moves_locked` meets its contract.
 use borrow.Author.Needs.{needs}
 use Rattle.checks.proofs.agents.moves_locked.Statement.{statement}
 use Rattle.checks.proofs.agents.moves_locked.Tie as tie
@@ -16,7 +16,12 @@ same-flag-requires : tie.Need-same-flag-requires
 same-flag-requires c κs = search needs
 
 returns : tie.Need-returns
-returns c = rw (c .same-flag .ensures, c .before .either .ensures, c .before .before .held-for-move .ensures, c .before .before .before .phase-kind .ensures)
+returns c = rw (
+  c .same-flag .ensures,
+  c .before .either .ensures,
+  c .before .before .held-for-move .ensures,
+  c .before .before .before .phase-kind .ensures,
+)
 
 pub moves-locked-spec : {M : Type 1} → statement M
 moves-locked-spec =

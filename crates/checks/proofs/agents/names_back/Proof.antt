@@ -1,4 +1,4 @@
--- `soundness::agents::names_back` meets its contract.
+-- `checks::agents::names_back` meets its contract.
 use borrow.Author.Needs.{needs}
 use Rattle.checks.proofs.agents.names_back.Statement.{statement}
 use Rattle.checks.proofs.agents.names_back.Tie as tie
@@ -16,7 +16,10 @@ both-requires-2 : tie.Need-both-requires-2
 both-requires-2 c κs = search needs
 
 returns : tie.Need-returns
-returns c = rw (c .both2 .ensures, c .before .both .ensures, c .before .before .before .before .before .before .before .before .before .peer-of2 .ensures, c .before .before .before .before .before .before .before .before .before .before .peer-of .ensures)
+returns c =
+    let at-peer-of2 = c .before .before .before .before .before .before .before .before .before in
+    let at-peer-of = at-peer-of2 .before in
+    rw (c .both2 .ensures, c .before .both .ensures, at-peer-of2 .peer-of2 .ensures, at-peer-of .peer-of .ensures)
 
 pub names-back-spec : {M : Type 1} → statement M
 names-back-spec =

@@ -1,4 +1,4 @@
--- `soundness::messages::parties_fine` meets its contract.
+-- `checks::messages::parties_fine` meets its contract.
 use borrow.Author.Needs.{needs}
 use Rattle.checks.proofs.messages.parties_fine.Statement.{statement}
 use Rattle.checks.proofs.messages.parties_fine.Tie as tie
@@ -19,7 +19,11 @@ both-requires-2 : tie.Need-both-requires-2
 both-requires-2 c κs = search needs
 
 returns : tie.Need-returns
-returns c = rw (c .both2 .ensures, c .before .both .ensures, c .before .before .before .before .opposite .ensures, c .before .before .before .before .before .either .ensures, c .before .before .before .before .before .before .phase-kind .ensures)
+returns c =
+    let at-opposite = c .before .before .before .before in
+    let at-either = at-opposite .before in
+    let at-phase-kind = at-either .before in
+    rw (c .both2 .ensures, c .before .both .ensures, at-opposite .opposite .ensures, at-either .either .ensures, at-phase-kind .phase-kind .ensures)
 
 pub parties-fine-spec : {M : Type 1} → statement M
 parties-fine-spec =

@@ -10,7 +10,7 @@ either-requires : tie.Need-either-requires
 either-requires c κs = search needs
 
 returns : tie.Need-returns
-returns c = cc
+returns c = rw (c .either .ensures, c .before .opposite .ensures)
 
 pub if-then-spec : {M : Type 1} → statement M
 if-then-spec = tie.close (tie.spec opposite-requires either-requires returns)

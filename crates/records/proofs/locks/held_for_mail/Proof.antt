@@ -19,7 +19,7 @@ returns-2 : tie.Need-returns-2
 returns-2 c = search needs
 
 returns-3 : tie.Need-returns-3
-returns-3 c = cc
+returns-3 c = rw (c .before .before .before .l .given .1)
 
 pub held-for-mail-spec : {M : Type 1} → statement M
 held-for-mail-spec =

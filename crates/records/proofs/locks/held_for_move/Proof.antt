@@ -16,7 +16,7 @@ returns : tie.Need-returns
 returns c = search needs
 
 returns-2 : tie.Need-returns-2
-returns-2 c = cc
+returns-2 c = rw (c .before .before .before .l .given .1)
 
 returns-3 : tie.Need-returns-3
 returns-3 c = search needs

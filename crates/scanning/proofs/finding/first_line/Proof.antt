@@ -1,4 +1,4 @@
--- `script::finding::first_line` meets its contract.
+-- `scanning::finding::first_line` meets its contract.
 use mathlib.Core.Path.{ap, sym}
 use native.Mathlib.Omega.{arith}
 use lib.ListN.{take}
@@ -11,7 +11,9 @@ line-length-requires : tie.Need-line-length-requires
 line-length-requires c κs = search needs
 
 slice-aggregate-result : tie.Need-slice-aggregate-result
-slice-aggregate-result c = sym (length-take-le (c .before .line-length .result) (c .before .before .before .args .text .now) (omega arith))
+slice-aggregate-result c =
+    let text = c .before .before .before .args .text .now in
+    sym (length-take-le (c .before .line-length .result) text (omega arith))
 
 returns : tie.Need-returns
 returns c = ap (λ n. take n (c .before .before .before .args .text .now)) (c .before .line-length .ensures .0)

@@ -1,4 +1,4 @@
--- `script::finding::line_length` meets its contract.
+-- `scanning::finding::line_length` meets its contract.
 use Prim.Native.Nat.{_≤_, _+_, _-_}
 use mathlib.Core.Path.{_≡_}
 use native.Mathlib.Omega.{arith}
@@ -21,7 +21,11 @@ shared-slice-read-if1 : tie.Need-shared-slice-read-if1 Inv-loop μ-loop
 shared-slice-read-if1 c = omega arith
 
 returns : tie.Need-returns Inv-loop μ-loop
-returns c = omega (arith, length-stops (c .before .before .before .before .args .text .now) (c .before .before .before .loop .i) (omega arith) (c .if1 .taken))
+returns c =
+    let at-loop = c .before .before .before in
+    let text = at-loop .before .args .text .now in
+    let loop = at-loop .loop in
+    omega (arith, length-stops text (loop .i) (omega arith) (c .if1 .taken))
 
 add-i : tie.Need-add-i Inv-loop μ-loop
 add-i c = omega arith
@@ -30,7 +34,11 @@ loop-less : tie.Need-loop-less Inv-loop μ-loop
 loop-less c = omega arith
 
 loop-again : tie.Need-loop-again Inv-loop μ-loop
-loop-again c = omega (arith, length-on (c .before .before .before .before .args .text .now) (c .before .before .before .loop .i) (omega arith) (c .if1 .left))
+loop-again c =
+    let at-loop = c .before .before .before in
+    let text = at-loop .before .args .text .now in
+    let loop = at-loop .loop in
+    omega (arith, length-on text (loop .i) (omega arith) (c .if1 .left))
 
 returns-2 : tie.Need-returns-2 Inv-loop μ-loop
 returns-2 c = omega (arith, length-ends (c .before .before .args .text .now) (c .before .loop .i) (omega arith))

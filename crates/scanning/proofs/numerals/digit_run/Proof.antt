@@ -1,4 +1,4 @@
--- `script::numerals::digit_run` meets its contract.
+-- `scanning::numerals::digit_run` meets its contract.
 use Prim.Native.Nat.{_≤_, _+_, _-_}
 use mathlib.Core.Path.{_≡_}
 use native.Mathlib.Omega.{arith}
@@ -21,10 +21,18 @@ shared-slice-read-b : tie.Need-shared-slice-read-b Inv-loop μ-loop
 shared-slice-read-b c = omega arith
 
 returns : tie.Need-returns Inv-loop μ-loop
-returns c = omega (arith, run-stops (c .before .before .before .before .args .text .now) (c .before .before .before .loop .i) (omega arith) (below-digits (getD (c .before .before .before .before .args .text .now) (c .before .before .before .loop .i) 0) (c .if1 .taken)))
+returns c =
+    let at-loop = c .before .before .before in
+    let text = at-loop .before .args .text .now in
+    let loop = at-loop .loop in
+    omega (arith, run-stops text (loop .i) (omega arith) (below-digits (getD text (loop .i) 0) (c .if1 .taken)))
 
 returns-2 : tie.Need-returns-2 Inv-loop μ-loop
-returns-2 c = omega (arith, run-stops (c .before .before .before .before .before .args .text .now) (c .before .before .before .before .loop .i) (omega arith) (above-digits (getD (c .before .before .before .before .before .args .text .now) (c .before .before .before .before .loop .i) 0) (c .if2 .taken)))
+returns-2 c =
+    let at-loop = c .before .before .before .before in
+    let text = at-loop .before .args .text .now in
+    let loop = at-loop .loop in
+    omega (arith, run-stops text (loop .i) (omega arith) (above-digits (getD text (loop .i) 0) (c .if2 .taken)))
 
 add-i : tie.Need-add-i Inv-loop μ-loop
 add-i c = omega arith
@@ -33,7 +41,11 @@ loop-less : tie.Need-loop-less Inv-loop μ-loop
 loop-less c = omega arith
 
 loop-again : tie.Need-loop-again Inv-loop μ-loop
-loop-again c = omega (arith, run-on (c .before .before .before .before .before .args .text .now) (c .before .before .before .before .loop .i) (omega arith) (is-digit (getD (c .before .before .before .before .before .args .text .now) (c .before .before .before .before .loop .i) 0) (omega arith) (omega arith)))
+loop-again c =
+    let at-loop = c .before .before .before .before in
+    let text = at-loop .before .args .text .now in
+    let loop = at-loop .loop in
+    omega (arith, run-on text (loop .i) (omega arith) (is-digit (getD text (loop .i) 0) (omega arith) (omega arith)))
 
 returns-3 : tie.Need-returns-3 Inv-loop μ-loop
 returns-3 c = omega (arith, run-ends (c .before .before .args .text .now) (c .before .loop .i) (omega arith))

@@ -1,8 +1,8 @@
--- `script::numerals::value_of` meets its contract.
-use Prim.Native.Nat.{_≤_, _+_, _-_}
+-- `scanning::numerals::value_of` meets its contract.
+use Prim.Native.Nat.{_≤_, _-_}
 use mathlib.Core.Path.{_≡_, sym, _∙_}
 use native.Mathlib.Omega.{arith}
-use lib.ListN.{length, drop}
+use lib.ListN.{drop}
 use Rattle.grammar.specs.Grammar.{valueFrom}
 use Rattle.grammar.proofs.Digits.{Small, small-bound, small-on, value-starts, value-on, value-ends}
 use Rattle.scanning.proofs.numerals.value_of.Statement.{statement}
@@ -19,7 +19,9 @@ loop-holds : tie.Need-loop-holds Inv-loop μ-loop
 loop-holds c = (omega arith, (value-starts (c .before .args .text .now) (c .before .args .digits), omega arith))
 
 mul-value : tie.Need-mul-value Inv-loop μ-loop
-mul-value c = omega (arith, small-bound (c .before .loop .value) (c .before .loop .i) (c .before .loop .inv .1 .1) (omega arith))
+mul-value c =
+    let loop = c .before .loop in
+    omega (arith, small-bound (loop .value) (loop .i) (loop .inv .1 .1) (omega arith))
 
 shared-slice-read-ones : tie.Need-shared-slice-read-ones Inv-loop μ-loop
 shared-slice-read-ones c = omega arith
@@ -28,7 +30,9 @@ ones-requires : tie.Need-ones-requires Inv-loop μ-loop
 ones-requires c κs = tt
 
 add-value : tie.Need-add-value Inv-loop μ-loop
-add-value c = omega (arith, small-bound (c .before .before .before .loop .value) (c .before .before .before .loop .i) (c .before .before .before .loop .inv .1 .1) (omega arith))
+add-value c =
+    let loop = c .before .before .before .loop in
+    omega (arith, small-bound (loop .value) (loop .i) (loop .inv .1 .1) (omega arith))
 
 add-i : tie.Need-add-i Inv-loop μ-loop
 add-i c = omega arith

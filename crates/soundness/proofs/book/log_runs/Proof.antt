@@ -2,13 +2,12 @@
 use Rattle.soundness.proofs.book.log_runs.Statement.{statement}
 use Rattle.soundness.proofs.book.log_runs.Tie as tie
 use borrow.Author.Needs.{needs}
-use Prim.Native.Nat.{ℕ, _+_, _-_, _≤_, _<_}
-use mathlib.Core.Bool.{Bool, true, false, not, _&&_}
-use mathlib.Core.List.{List}
-use mathlib.Core.Path.{_≡_, refl, sym, ap, _∙_}
-use lib.ListN.{getD, set, drop}
-use lib.Dec.{ltb, eqb}
-use Rattle.rules.specs.Tests.{logRuns, noMarks, delivered, entryIn, statusRoom, logRoom}
+use Prim.Native.Nat.{_-_, _≤_}
+use mathlib.Core.Bool.{Bool, true, false, _&&_}
+use mathlib.Core.Path.{_≡_, refl}
+use lib.ListN.{drop}
+use lib.Dec.{eqb}
+use Rattle.rules.specs.Tests.{logRuns, noMarks, delivered, statusRoom, logRoom}
 use Rattle.rules.proofs.TestRuns.{log-start, log-on, log-end}
 use Rattle.records.specs.Places.{allOf}
 use Rattle.records.specs.Messages.{emptyEntry}
@@ -66,49 +65,26 @@ add-i c = search needs
 loop-less : tie.Need-loop-less Inv-loop μ-loop Inv-loop2 μ-loop2
 loop-less c = search needs
 
--- what is left of the log's run from the place i on, with the marks so far
-abbrev still : tie.At-loop Inv-loop μ-loop Inv-loop2 μ-loop2 → ℕ → List Bool → Bool
-still l i seen =
-    logRuns (l .before .args .messages) (l .before .args .status) (l .before .args .t4) (l .before .args .handed - i) i seen
-
-abbrev whole : tie.At-loop Inv-loop μ-loop Inv-loop2 μ-loop2 → Bool
-whole l = logRuns (l .before .args .messages) (l .before .args .status) (l .before .args .t4) (l .before .args .handed) 0 noMarks
-
-abbrev entry : tie.At-loop Inv-loop μ-loop Inv-loop2 μ-loop2 → ℕ
-entry l = entryIn (l .before .args .t4) (l .loop .i) .0
-
-goes-on : (l : tie.At-loop Inv-loop μ-loop Inv-loop2 μ-loop2) (p : ℕ) (next : Bool) → l .loop .i < l .before .args .handed → (entry l < 512 → p ≡ entry l) → next ≡ (l .loop .fine && (ltb (entry l) (l .before .args .messages) && not (getD (l .loop .seen) p false))) → whole l ≡ (next && still l (l .loop .i + 1) (set (l .loop .seen) p true))
-goes-on l p next more right step =
-    l .loop .inv .1
-    ∙ rw step (log-on (l .before .args .messages) (l .before .args .status) (l .before .args .t4) (l .before .args .handed) (l .loop .i)
-    (l .loop .seen)
-    (l .loop .fine)
-    p
-    more
-    (l .before .pre .0)
-    right)
-
 regroup : (a b c d : Bool) → ((a && (b && c)) && d) ≡ ((a && b) && (c && d))
 regroup true true c d = refl
 regroup true false c d = refl
 regroup false b c d = refl
 
--- the log's run is over, and the marks are compared with the statuses
-run-over : (l : tie.At-loop Inv-loop μ-loop Inv-loop2 μ-loop2) → l .before .args .handed ≤ l .loop .i → whole l ≡ (l .loop .fine && delivered (l .before .args .messages) (l .before .args .status) (l .loop .seen))
-run-over l over =
-    l .loop .inv .1
-    ∙ rw (log-end (l .before .args .messages) (l .before .args .status) (l .before .args .t4) (l .before .args .handed) (l .loop .i) (l .loop .seen) over)
-
-ends : (l : tie.At-loop Inv-loop μ-loop Inv-loop2 μ-loop2) (room empty : Bool) → l .before .args .handed ≤ l .loop .i → ((l .loop .fine && (delivered (l .before .args .messages) (l .before .args .status) (l .loop .seen) && room)) && empty) ≡ (whole l && (room && empty))
-ends l room empty over =
-    regroup (l .loop .fine) (delivered (l .before .args .messages) (l .before .args .status) (l .loop .seen)) room empty
-    ∙ ap (λ (run : Bool). run && (room && empty)) (sym (run-over l over))
-
 loop-again : tie.Need-loop-again Inv-loop μ-loop Inv-loop2 μ-loop2
-loop-again c = (
-  search needs,
-  goes-on (c .before .before .before .before .before .before .before) (c .before .before .before .before .mail-place .result) (c .both2 .result) (search needs) (c .before .before .before .before .mail-place .ensures .1) (rw (c .both2 .ensures, c .before .both .ensures, c .before .before .before .opposite .ensures)),
-)
+loop-again c =
+    let at-place = c .before .before .before .before in
+    let at-loop = at-place .before .before .before in
+    let args = at-loop .before .args in
+    let loop = at-loop .loop in
+    let place = at-place .mail-place in
+    let on =
+    log-on (args .messages) (args .status) (args .t4) (args .handed) (loop .i) (loop .seen) (loop .fine) (place .result)
+    (search needs)
+    (at-loop .before .pre .0)
+    (place .ensures .1) in (
+      search needs,
+      rw (loop .inv .1, c .both2 .ensures, c .before .both .ensures, c .before .before .before .opposite .ensures) on,
+    )
 
 loop2-holds : tie.Need-loop2-holds Inv-loop μ-loop Inv-loop2 μ-loop2
 loop2-holds c = refl
@@ -128,15 +104,12 @@ add-j c = search needs
 loop2-less : tie.Need-loop2-less Inv-loop μ-loop Inv-loop2 μ-loop2
 loop2-less c = search needs
 
-goes-on2 : (l : tie.At-loop2 Inv-loop μ-loop Inv-loop2 μ-loop2) (next : Bool) → l .loop2 .j < 512 → next ≡ (l .loop2 .empty && test (getD (l .before .before .before .args .t4) (l .loop2 .j) emptyEntry)) → allOf test (drop (l .before .before .before .args .handed) (l .before .before .before .args .t4)) ≡ (next && allOf test (drop (l .loop2 .j + 1) (l .before .before .before .args .t4)))
-goes-on2 l next more step = room-on test (l .before .before .before .args .t4) emptyEntry (l .before .before .before .args .handed) (l .loop2 .j) (l .loop2 .empty) next (search needs) (l .loop2 .inv) step
-
 loop2-again : tie.Need-loop2-again Inv-loop μ-loop Inv-loop2 μ-loop2
-loop2-again c = goes-on2 (c .before .before .before .before) (c .both3 .result) (search needs) (c .both3 .ensures)
-
-room2 : (l : tie.At-loop2 Inv-loop μ-loop Inv-loop2 μ-loop2) → 512 ≤ l .loop2 .j → l .loop2 .empty ≡ logRoom (l .before .before .before .args .handed) (l .before .before .before .args .t4)
-unfolding logRoom
-room2 l over = room-end test (l .before .before .before .args .t4) (l .before .before .before .args .handed) (l .loop2 .j) (l .loop2 .empty) (search needs) (l .loop2 .inv)
+loop2-again c =
+    let at-loop2 = c .before .before .before .before in
+    let args = at-loop2 .before .before .before .args in
+    let loop2 = at-loop2 .loop2 in
+    room-on test (args .t4) emptyEntry (args .handed) (loop2 .j) (loop2 .empty) (c .both3 .result) (loop2 .inv) (c .both3 .ensures) (search needs)
 
 marked-right-requires : tie.Need-marked-right-requires Inv-loop μ-loop Inv-loop2 μ-loop2
 marked-right-requires c κs = search needs
@@ -148,9 +121,22 @@ both-requires-5 : tie.Need-both-requires-5 Inv-loop μ-loop Inv-loop2 μ-loop2
 both-requires-5 c κs = search needs
 
 returns : tie.Need-returns Inv-loop μ-loop Inv-loop2 μ-loop2
+unfolding logRoom
 returns c =
-    c .both5 .ensures
-    ∙ rw (c .before .both4 .ensures, c .before .before .marked-right .ensures, room2 (c .before .before .before .before) (search needs)) (ends (c .before .before .before .before .before .before) (statusRoom (c .before .before .before .before .before .before .before .args .messages) (c .before .before .before .before .before .before .before .args .status)) (logRoom (c .before .before .before .before .before .before .before .args .handed) (c .before .before .before .before .before .before .before .args .t4)) (search needs))
+    let at-marked = c .before .before in
+    let at-loop = at-marked .before .before .before .before in
+    let args = at-loop .before .args in
+    let loop = at-loop .loop in
+    let loop2 = at-marked .before .before .loop2 in
+    let run = log-end (args .messages) (args .status) (args .t4) (args .handed) (loop .i) (loop .seen) (search needs) in
+    rw (
+      c .both5 .ensures,
+      c .before .both4 .ensures,
+      at-marked .marked-right .ensures,
+      loop .inv .1,
+      run,
+      room-end test (args .t4) (args .handed) (loop2 .j) (loop2 .empty) (loop2 .inv) (search needs),
+    ) (regroup (loop .fine) (delivered (args .messages) (args .status) (loop .seen)) (statusRoom (args .messages) (args .status)) (logRoom (args .handed) (args .t4)))
 
 pub log-runs-spec : {M : Type 1} → statement M
 log-runs-spec =

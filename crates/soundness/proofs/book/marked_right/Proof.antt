@@ -2,9 +2,9 @@
 use Rattle.soundness.proofs.book.marked_right.Statement.{statement}
 use Rattle.soundness.proofs.book.marked_right.Tie as tie
 use borrow.Author.Needs.{needs}
-use Prim.Native.Nat.{ℕ, _+_, _-_, _≤_, _<_}
+use Prim.Native.Nat.{_-_, _≤_}
 use mathlib.Core.Bool.{Bool, false, Bool·beq, _&&_}
-use mathlib.Core.Path.{_≡_, refl, ap₂, _∙_}
+use mathlib.Core.Path.{_≡_, refl}
 use lib.ListN.{getD, drop}
 use Rattle.records.specs.Numbers.{mailNo}
 use Rattle.records.specs.Messages.{isDelivered, isQueued, standing}
@@ -63,16 +63,15 @@ add-i c = search needs
 loop-less : tie.Need-loop-less Inv-loop μ-loop Inv-loop2 μ-loop2
 loop-less c = search needs
 
--- the test of each message, as it stands where the loop's test is reached
-abbrev tests : tie.At-loop Inv-loop μ-loop Inv-loop2 μ-loop2 → ℕ → Bool
-tests l j =
-    Bool·beq (getD (l .before .args .t3) j false) (isDelivered (statusIn (l .before .args .t2) (mailNo j)))
-
 loop-again : tie.Need-loop-again Inv-loop μ-loop Inv-loop2 μ-loop2
-loop-again c = (
-  search needs,
-  below-on (tests (c .before .before .before .before .before .before)) (c .before .before .before .before .before .before .loop .i) (c .before .before .before .before .before .before .loop .fine) (c .before .same-flag .result) (c .both .result) (c .before .before .before .before .before .before .loop .inv .1) (rw (c .before .same-flag .ensures, c .before .before .either .ensures, c .before .before .before .status-kind .ensures)) (c .both .ensures),
-)
+loop-again c =
+    let at-kind = c .before .before .before in
+    let loop = at-kind .before .before .before .loop in (
+      search needs,
+      below-on _ _ _ (c .before .same-flag .result) _ (loop .inv .1)
+          (rw (c .before .same-flag .ensures, c .before .before .either .ensures, at-kind .status-kind .ensures))
+          (c .both .ensures),
+    )
 
 loop2-holds : tie.Need-loop2-holds Inv-loop μ-loop Inv-loop2 μ-loop2
 loop2-holds c = refl
@@ -95,25 +94,30 @@ add-j c = search needs
 loop2-less : tie.Need-loop2-less Inv-loop μ-loop Inv-loop2 μ-loop2
 loop2-less c = search needs
 
-goes-on2 : (l : tie.At-loop2 Inv-loop μ-loop Inv-loop2 μ-loop2) (next : Bool) → l .loop2 .j < 512 → next ≡ (l .loop2 .empty && test (getD (l .before .before .before .args .t2) (l .loop2 .j) (standing Queued))) → allOf test (drop (l .before .before .before .args .messages) (l .before .before .before .args .t2)) ≡ (next && allOf test (drop (l .loop2 .j + 1) (l .before .before .before .args .t2)))
-goes-on2 l next more step = room-on test (l .before .before .before .args .t2) (standing Queued) (l .before .before .before .args .messages) (l .loop2 .j) (l .loop2 .empty) next (search needs) (l .loop2 .inv) step
-
 loop2-again : tie.Need-loop2-again Inv-loop μ-loop Inv-loop2 μ-loop2
-loop2-again c = goes-on2 (c .before .before .before .before) (c .both2 .result) (search needs) (rw (c .both2 .ensures, c .before .status-kind2 .ensures))
-
-room2 : (l : tie.At-loop2 Inv-loop μ-loop Inv-loop2 μ-loop2) → 512 ≤ l .loop2 .j → l .loop2 .empty ≡ statusRoom (l .before .before .before .args .messages) (l .before .before .before .args .t2)
-unfolding statusRoom
-room2 l over = room-end test (l .before .before .before .args .t2) (l .before .before .before .args .messages) (l .loop2 .j) (l .loop2 .empty) (search needs) (l .loop2 .inv)
-
-live : (l : tie.At-loop Inv-loop μ-loop Inv-loop2 μ-loop2) → l .before .args .messages ≤ l .loop .i → l .loop .fine ≡ delivered (l .before .args .messages) (l .before .args .t2) (l .before .args .t3)
-unfolding delivered
-live l over = below-end (tests l) (l .before .args .messages) (l .loop .i) (l .loop .fine) (l .loop .inv .0) over (l .loop .inv .1)
+loop2-again c =
+    let at-loop2 = c .before .before .before .before in
+    let args = at-loop2 .before .before .before .args in
+    let loop2 = at-loop2 .loop2 in
+    room-on test (args .t2) (standing Queued) (args .messages) (loop2 .j) (loop2 .empty) (c .both2 .result) (loop2 .inv)
+    (rw (c .both2 .ensures, c .before .status-kind2 .ensures))
+    (search needs)
 
 both-requires-3 : tie.Need-both-requires-3 Inv-loop μ-loop Inv-loop2 μ-loop2
 both-requires-3 c κs = search needs
 
 returns : tie.Need-returns Inv-loop μ-loop Inv-loop2 μ-loop2
-returns c = c .both3 .ensures ∙ ap₂ _&&_ (live (c .before .before .before .before) (search needs)) (room2 (c .before .before) (search needs))
+unfolding delivered statusRoom
+returns c =
+    let at-loop = c .before .before .before .before in
+    let args = at-loop .before .args in
+    let loop = at-loop .loop in
+    let loop2 = c .before .before .loop2 in
+    rw (
+      c .both3 .ensures,
+      below-end _ (args .messages) (loop .i) (loop .fine) (loop .inv) (search needs),
+      room-end test (args .t2) (args .messages) (loop2 .j) (loop2 .empty) (loop2 .inv) (search needs),
+    )
 
 pub marked-right-spec : {M : Type 1} → statement M
 marked-right-spec =

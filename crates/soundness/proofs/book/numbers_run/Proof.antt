@@ -2,10 +2,9 @@
 use Rattle.soundness.proofs.book.numbers_run.Statement.{statement}
 use Rattle.soundness.proofs.book.numbers_run.Tie as tie
 use borrow.Author.Needs.{needs}
-use Prim.Native.Nat.{ℕ, _+_, _-_, _≤_, _<_}
+use Prim.Native.Nat.{ℕ, _+_, _-_, _≤_}
 use mathlib.Core.Bool.{Bool, _&&_}
-use mathlib.Core.List.{List}
-use mathlib.Core.Path.{_≡_, refl, sym, ap₂, _∙_}
+use mathlib.Core.Path.{_≡_, refl, sym, _∙_}
 use native.Mathlib.Omega.{arith}
 use lib.ListN.{getD, set, drop}
 use lib.Dec.{eqb}
@@ -82,25 +81,16 @@ who l = partyIn (l .before .args .t2) (mailNo (l .loop .i)) .0
 abbrev had : tie.At-loop Inv-loop μ-loop Inv-loop2 μ-loop2 → ℕ
 had l = getD (l .loop .counts) (who l) 0
 
--- what is left of the numbers' run from the place i on, with the counts so far
-abbrev still : tie.At-loop Inv-loop μ-loop Inv-loop2 μ-loop2 → ℕ → List ℕ → Bool
-still l i counts = numbersRun (l .before .args .t2) (l .before .args .t3) (l .before .args .messages - i) i counts
-
-goes-on : (l : tie.At-loop Inv-loop μ-loop Inv-loop2 μ-loop2) → l .loop .i < l .before .args .messages → (l .loop .fine && still l (l .loop .i) (l .loop .counts)) ≡ ((l .loop .fine && eqb (getD (l .before .args .t3) (l .loop .i) 0) (had l + 1)) && still l (l .loop .i + 1) (set (l .loop .counts) (who l) (had l + 1)))
-goes-on l more =
-    numbers-on (l .before .args .t2) (l .before .args .t3) (l .before .args .messages) (l .loop .i) (l .loop .counts)
-    (l .loop .fine)
-    more
-
 bounded : (l : tie.At-loop Inv-loop μ-loop Inv-loop2 μ-loop2) (k : ℕ) → getD (set (l .loop .counts) (who l) (had l + 1)) k 0 ≤ l .loop .i + 1
-bounded l =
-    counts-on (l .loop .counts) (who l) (l .loop .i) (had l + 1) (omega (arith, l .loop .inv .1 .0 (who l))) (l .loop .inv .1 .0)
+bounded l = counts-on (l .loop .counts) (who l) (l .loop .i) (had l + 1) (omega (arith, l .loop .inv .1 .0 (who l))) (l .loop .inv .1 .0)
 
 loop-again : tie.Need-loop-again Inv-loop μ-loop Inv-loop2 μ-loop2
-loop-again c = (
-  search needs,
-  (bounded (c .before .before .before .before), c .before .before .before .before .loop .inv .1 .1 ∙ rw (c .both .ensures) (goes-on (c .before .before .before .before) (search needs))),
-)
+loop-again c =
+    let at-loop = c .before .before .before .before in
+    let args = at-loop .before .args in
+    let loop = at-loop .loop in
+    let on = numbers-on (args .t2) (args .t3) (args .messages) (loop .i) (loop .counts) (loop .fine) (search needs) in
+    (search needs, (bounded at-loop, rw (loop .inv .1 .1, c .both .ensures) on))
 
 loop2-holds : tie.Need-loop2-holds Inv-loop μ-loop Inv-loop2 μ-loop2
 loop2-holds c = refl
@@ -120,24 +110,29 @@ add-j c = search needs
 loop2-less : tie.Need-loop2-less Inv-loop μ-loop Inv-loop2 μ-loop2
 loop2-less c = search needs
 
-goes-on2 : (l : tie.At-loop2 Inv-loop μ-loop Inv-loop2 μ-loop2) (next : Bool) → l .loop2 .j < 512 → next ≡ (l .loop2 .empty && test (getD (l .before .before .before .args .t3) (l .loop2 .j) 0)) → allOf test (drop (l .before .before .before .args .messages) (l .before .before .before .args .t3)) ≡ (next && allOf test (drop (l .loop2 .j + 1) (l .before .before .before .args .t3)))
-goes-on2 l next more step = room-on test (l .before .before .before .args .t3) 0 (l .before .before .before .args .messages) (l .loop2 .j) (l .loop2 .empty) next (search needs) (l .loop2 .inv) step
-
 loop2-again : tie.Need-loop2-again Inv-loop μ-loop Inv-loop2 μ-loop2
-loop2-again c = goes-on2 (c .before .before) (c .both2 .result) (search needs) (c .both2 .ensures)
-
-room2 : (l : tie.At-loop2 Inv-loop μ-loop Inv-loop2 μ-loop2) → 512 ≤ l .loop2 .j → l .loop2 .empty ≡ numberRoom (l .before .before .before .args .messages) (l .before .before .before .args .t3)
-unfolding numberRoom
-room2 l over = room-end test (l .before .before .before .args .t3) (l .before .before .before .args .messages) (l .loop2 .j) (l .loop2 .empty) (search needs) (l .loop2 .inv)
-
-live : (l : tie.At-loop Inv-loop μ-loop Inv-loop2 μ-loop2) → l .before .args .messages ≤ l .loop .i → l .loop .fine ≡ numbersRun (l .before .args .t2) (l .before .args .t3) (l .before .args .messages) 0 noCounts
-live l over = sym (l .loop .inv .1 .1 ∙ numbers-end (l .before .args .t2) (l .before .args .t3) (l .before .args .messages) (l .loop .i) (l .loop .counts) (l .loop .fine) over)
+loop2-again c =
+    let at-loop2 = c .before .before in
+    let args = at-loop2 .before .before .before .args in
+    let loop2 = at-loop2 .loop2 in
+    room-on test (args .t3) 0 (args .messages) (loop2 .j) (loop2 .empty) (c .both2 .result) (loop2 .inv) (c .both2 .ensures) (search needs)
 
 both-requires-3 : tie.Need-both-requires-3 Inv-loop μ-loop Inv-loop2 μ-loop2
 both-requires-3 c κs = search needs
 
 returns : tie.Need-returns Inv-loop μ-loop Inv-loop2 μ-loop2
-returns c = c .both3 .ensures ∙ ap₂ _&&_ (live (c .before .before .before .before) (search needs)) (room2 (c .before .before) (search needs))
+unfolding numberRoom
+returns c =
+    let at-loop = c .before .before .before .before in
+    let args = at-loop .before .args in
+    let loop = at-loop .loop in
+    let loop2 = c .before .before .loop2 in
+    let run = numbers-end (args .t2) (args .t3) (args .messages) (loop .i) (loop .counts) (loop .fine) (search needs) in
+    rw (
+      c .both3 .ensures,
+      sym (loop .inv .1 .1 ∙ run),
+      room-end test (args .t3) (args .messages) (loop2 .j) (loop2 .empty) (loop2 .inv) (search needs),
+    )
 
 pub numbers-run-spec : {M : Type 1} → statement M
 numbers-run-spec =

@@ -2,9 +2,9 @@
 use Rattle.soundness.proofs.messages.messages_fine.Statement.{statement}
 use Rattle.soundness.proofs.messages.messages_fine.Tie as tie
 use borrow.Author.Needs.{needs}
-use Prim.Native.Nat.{ℕ, _+_, _-_, _≤_, _<_}
+use Prim.Native.Nat.{ℕ, _-_, _≤_}
 use mathlib.Core.Bool.{Bool, true, _&&_}
-use mathlib.Core.Path.{_≡_, refl, sym, ap₂, _∙_}
+use mathlib.Core.Path.{_≡_, refl, sym, _∙_}
 use borrow.Author.Tests.{not-true, not-false}
 use Rattle.records.specs.Places.{allBelow, allOf}
 use lib.ListN.{getD, drop}
@@ -100,35 +100,66 @@ tests l =
 abbrev place : tie.After-parties-fine Inv-loop μ-loop Inv-loop2 μ-loop2 Inv-loop3 μ-loop3 → tie.At-loop Inv-loop μ-loop Inv-loop2 μ-loop2 Inv-loop3 μ-loop3
 place c = c .before .before .before .before .before .before .before .before .before
 
-read : (c : tie.After-parties-fine Inv-loop μ-loop Inv-loop2 μ-loop2 Inv-loop3 μ-loop3) → messageRight (c .before .before .before .before .before .before .before .before .before .before .args .agents) (c .before .before .before .before .before .before .before .before .before .before .args .lock) (c .before .before .before .before .before .before .before .before .before .loop .i) (partyIn (c .before .before .before .before .before .before .before .before .before .before .args .t5) (mailNo (c .before .before .before .before .before .before .before .before .before .loop .i))) (partyIn (c .before .before .before .before .before .before .before .before .before .before .args .t6) (mailNo (c .before .before .before .before .before .before .before .before .before .loop .i))) (getD (c .before .before .before .before .before .before .before .before .before .before .args .t4) (c .before .before .before .before .agent-place .result) emptyAgent) (getD (c .before .before .before .before .before .before .before .before .before .before .args .t4) (c .before .before .before .agent-place2 .result) emptyAgent) (statusIn (c .before .before .before .before .before .before .before .before .before .before .args .t7) (mailNo (c .before .before .before .before .before .before .before .before .before .loop .i))) ≡ tests (place c) (place c .loop .i)
+-- what was asked of the message, with the agents that were read for it
+abbrev right : tie.After-parties-fine Inv-loop μ-loop Inv-loop2 μ-loop2 Inv-loop3 μ-loop3 → Bool
+right c =
+    let at-places = c .before .before .before in
+    let args = place c .before .args in
+    let i = place c .loop .i in
+    messageRight (args .agents) (args .lock) i (partyIn (args .t5) (mailNo i)) (partyIn (args .t6) (mailNo i))
+    (getD (args .t4) (at-places .before .agent-place .result) emptyAgent)
+    (getD (args .t4) (at-places .agent-place2 .result) emptyAgent)
+    (statusIn (args .t7) (mailNo i))
+
+read : (c : tie.After-parties-fine Inv-loop μ-loop Inv-loop2 μ-loop2 Inv-loop3 μ-loop3) → right c ≡ tests (place c) (place c .loop .i)
 read c =
-    message-read (c .before .before .before .before .before .before .before .before .before .before .args .agents) (c .before .before .before .before .before .before .before .before .before .before .args .lock) (c .before .before .before .before .before .before .before .before .before .before .args .t4) (c .before .before .before .before .before .before .before .before .before .before .args .t5) (c .before .before .before .before .before .before .before .before .before .before .args .t6) (c .before .before .before .before .before .before .before .before .before .before .args .t7) (c .before .before .before .before .before .before .before .before .before .loop .i)
-    (c .before .before .before .before .agent-place .result)
-    (c .before .before .before .agent-place2 .result)
-    (c .before .before .before .before .before .before .before .before .before .before .pre .0)
-    (c .before .before .before .before .agent-place .ensures .1)
-    (c .before .before .before .agent-place2 .ensures .1)
+    let at-places = c .before .before .before in
+    let from = at-places .before .agent-place in
+    let to = at-places .agent-place2 in
+    let start = place c .before in
+    let args = start .args in
+    message-read (args .agents) (args .lock) (args .t4) (args .t5) (args .t6) (args .t7) (place c .loop .i) (from .result) (to .result) (start .pre .0)
+    (from .ensures .1)
+    (to .ensures .1)
 
 returns : tie.Need-returns Inv-loop μ-loop Inv-loop2 μ-loop2 Inv-loop3 μ-loop3
 returns c =
-    fails-first _ (below-off (tests (place (c .before))) (place (c .before) .before .args .messages) (place (c .before) .loop .i)
-    (search needs)
-    (sym (read (c .before)) ∙ rw (sym (c .before .parties-fine .ensures) ∙ not-true (c .before .parties-fine .result) (c .if1 .taken))))
+    let l = place (c .before) in
+    let parties = c .before .parties-fine in
+    fails-first _ (below-off (tests l) (l .before .args .messages) (l .loop .i) (search needs)
+    (rw (← read (c .before), sym (parties .ensures) ∙ not-true (parties .result) (c .if1 .taken))))
 
 status-right-requires : tie.Need-status-right-requires Inv-loop μ-loop Inv-loop2 μ-loop2 Inv-loop3 μ-loop3
 status-right-requires c κs = search needs
 
 returns-2 : tie.Need-returns-2 Inv-loop μ-loop Inv-loop2 μ-loop2 Inv-loop3 μ-loop3
 returns-2 c =
-    fails-first _ (below-off (tests (place (c .before .before .before))) (place (c .before .before .before) .before .args .messages) (place (c .before .before .before) .loop .i)
-    (search needs)
-    (sym (read (c .before .before .before)) ∙ rw (sym (c .before .before .before .parties-fine .ensures) ∙ not-false (c .before .before .before .parties-fine .result) (c .before .before .if1 .left), sym (c .before .status-right .ensures) ∙ not-true (c .before .status-right .result) (c .if2 .taken))))
+    let at-parties = c .before .before .before in
+    let l = place at-parties in
+    let parties = at-parties .parties-fine in
+    let status = c .before .status-right in
+    fails-first _ (below-off (tests l) (l .before .args .messages) (l .loop .i) (search needs)
+    (rw (
+      ← read at-parties,
+      sym (parties .ensures) ∙ not-false (parties .result) (c .before .before .if1 .left),
+      sym (status .ensures) ∙ not-true (status .result) (c .if2 .taken),
+    )))
 
 loop-again : tie.Need-loop-again Inv-loop μ-loop Inv-loop2 μ-loop2 Inv-loop3 μ-loop3
-loop-again c = (
-  search needs,
-  below-on (tests (place (c .before .before .before))) (place (c .before .before .before) .loop .i) true true true (place (c .before .before .before) .loop .inv .1) (sym (sym (read (c .before .before .before)) ∙ rw (sym (c .before .before .before .parties-fine .ensures) ∙ not-false (c .before .before .before .parties-fine .result) (c .before .before .if1 .left), sym (c .before .status-right .ensures) ∙ not-false (c .before .status-right .result) (c .if2 .left)))) refl,
-)
+loop-again c =
+    let at-parties = c .before .before .before in
+    let l = place at-parties in
+    let parties = at-parties .parties-fine in
+    let status = c .before .status-right in (
+      search needs,
+      below-on (tests l) (l .loop .i) true true true (l .loop .inv .1)
+          (rw (
+            ← read at-parties,
+            sym (parties .ensures) ∙ not-false (parties .result) (c .before .before .if1 .left),
+            sym (status .ensures) ∙ not-false (status .result) (c .if2 .left),
+          ))
+          refl,
+    )
 
 loop2-holds : tie.Need-loop2-holds Inv-loop μ-loop Inv-loop2 μ-loop2 Inv-loop3 μ-loop3
 loop2-holds c = refl
@@ -148,15 +179,12 @@ add-j c = search needs
 loop2-less : tie.Need-loop2-less Inv-loop μ-loop Inv-loop2 μ-loop2 Inv-loop3 μ-loop3
 loop2-less c = search needs
 
-goes-on2 : (l : tie.At-loop2 Inv-loop μ-loop Inv-loop2 μ-loop2 Inv-loop3 μ-loop3) (next : Bool) → l .loop2 .j < 512 → next ≡ (l .loop2 .senders && test (getD (l .before .before .before .args .t5) (l .loop2 .j) (agentNo 0))) → allOf test (drop (l .before .before .before .args .messages) (l .before .before .before .args .t5)) ≡ (next && allOf test (drop (l .loop2 .j + 1) (l .before .before .before .args .t5)))
-goes-on2 l next more step = room-on test (l .before .before .before .args .t5) (agentNo 0) (l .before .before .before .args .messages) (l .loop2 .j) (l .loop2 .senders) next (search needs) (l .loop2 .inv) step
-
 loop2-again : tie.Need-loop2-again Inv-loop μ-loop Inv-loop2 μ-loop2 Inv-loop3 μ-loop3
-loop2-again c = goes-on2 (c .before .before .before .before) (c .both .result) (search needs) (c .both .ensures)
-
-room2 : (l : tie.At-loop2 Inv-loop μ-loop Inv-loop2 μ-loop2 Inv-loop3 μ-loop3) → 512 ≤ l .loop2 .j → l .loop2 .senders ≡ partyRoom (l .before .before .before .args .messages) (l .before .before .before .args .t5)
-unfolding partyRoom
-room2 l over = room-end test (l .before .before .before .args .t5) (l .before .before .before .args .messages) (l .loop2 .j) (l .loop2 .senders) (search needs) (l .loop2 .inv)
+loop2-again c =
+    let at-loop2 = c .before .before .before .before in
+    let args = at-loop2 .before .before .before .args in
+    let loop2 = at-loop2 .loop2 in
+    room-on test (args .t5) (agentNo 0) (args .messages) (loop2 .j) (loop2 .senders) (c .both .result) (loop2 .inv) (c .both .ensures) (search needs)
 
 loop3-holds : tie.Need-loop3-holds Inv-loop μ-loop Inv-loop2 μ-loop2 Inv-loop3 μ-loop3
 loop3-holds c = refl
@@ -176,26 +204,30 @@ add-k c = search needs
 loop3-less : tie.Need-loop3-less Inv-loop μ-loop Inv-loop2 μ-loop2 Inv-loop3 μ-loop3
 loop3-less c = search needs
 
-goes-on3 : (l : tie.At-loop3 Inv-loop μ-loop Inv-loop2 μ-loop2 Inv-loop3 μ-loop3) (next : Bool) → l .loop3 .k < 512 → next ≡ (l .loop3 .addressees && test (getD (l .before .before .before .before .before .args .t6) (l .loop3 .k) (agentNo 0))) → allOf test (drop (l .before .before .before .before .before .args .messages) (l .before .before .before .before .before .args .t6)) ≡ (next && allOf test (drop (l .loop3 .k + 1) (l .before .before .before .before .before .args .t6)))
-goes-on3 l next more step = room-on test (l .before .before .before .before .before .args .t6) (agentNo 0) (l .before .before .before .before .before .args .messages) (l .loop3 .k) (l .loop3 .addressees) next (search needs) (l .loop3 .inv) step
-
 loop3-again : tie.Need-loop3-again Inv-loop μ-loop Inv-loop2 μ-loop2 Inv-loop3 μ-loop3
-loop3-again c = goes-on3 (c .before .before .before .before) (c .both2 .result) (search needs) (c .both2 .ensures)
-
-room3 : (l : tie.At-loop3 Inv-loop μ-loop Inv-loop2 μ-loop2 Inv-loop3 μ-loop3) → 512 ≤ l .loop3 .k → l .loop3 .addressees ≡ partyRoom (l .before .before .before .before .before .args .messages) (l .before .before .before .before .before .args .t6)
-unfolding partyRoom
-room3 l over = room-end test (l .before .before .before .before .before .args .t6) (l .before .before .before .before .before .args .messages) (l .loop3 .k) (l .loop3 .addressees) (search needs) (l .loop3 .inv)
-
-live : (l : tie.At-loop Inv-loop μ-loop Inv-loop2 μ-loop2 Inv-loop3 μ-loop3) → l .before .args .messages ≤ l .loop .i → true ≡ allBelow (l .before .args .messages) (tests l)
-live l over = below-end (tests l) (l .before .args .messages) (l .loop .i) true (l .loop .inv .0) over (l .loop .inv .1)
+loop3-again c =
+    let at-loop3 = c .before .before .before .before in
+    let args = at-loop3 .before .before .before .before .before .args in
+    let loop3 = at-loop3 .loop3 in
+    room-on test (args .t6) (agentNo 0) (args .messages) (loop3 .k) (loop3 .addressees) (c .both2 .result) (loop3 .inv) (c .both2 .ensures) (search needs)
 
 both-requires-3 : tie.Need-both-requires-3 Inv-loop μ-loop Inv-loop2 μ-loop2 Inv-loop3 μ-loop3
 both-requires-3 c κs = search needs
 
 returns-3 : tie.Need-returns-3 Inv-loop μ-loop Inv-loop2 μ-loop2 Inv-loop3 μ-loop3
+unfolding partyRoom
 returns-3 c =
-    c .both3 .ensures
-    ∙ ap₂ _&&_ (live (c .before .before .before .before .before .before) (search needs)) (ap₂ _&&_ (room2 (c .before .before .before .before) (search needs)) (room3 (c .before .before) (search needs)))
+    let at-loop2 = c .before .before .before .before in
+    let l = at-loop2 .before .before in
+    let args = l .before .args in
+    let loop2 = at-loop2 .loop2 in
+    let loop3 = c .before .before .loop3 in
+    rw (
+      c .both3 .ensures,
+      ← below-end (tests l) (args .messages) (l .loop .i) true (l .loop .inv) (search needs),
+      room-end test (args .t5) (args .messages) (loop2 .j) (loop2 .senders) (loop2 .inv) (search needs),
+      room-end test (args .t6) (args .messages) (loop3 .k) (loop3 .addressees) (loop3 .inv) (search needs),
+    )
 
 pub messages-fine-spec : {M : Type 1} → statement M
 messages-fine-spec =

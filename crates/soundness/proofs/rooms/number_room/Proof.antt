@@ -2,11 +2,11 @@
 use Rattle.soundness.proofs.rooms.number_room.Statement.{statement}
 use Rattle.soundness.proofs.rooms.number_room.Tie as tie
 use borrow.Author.Needs.{needs}
-use Prim.Native.Nat.{ℕ, _+_, _-_, _<_}
+use Prim.Native.Nat.{ℕ, _-_}
 use mathlib.Core.Bool.{Bool, _&&_}
 use mathlib.Core.Path.{_≡_, refl}
 use lib.Dec.{eqb}
-use lib.ListN.{getD, drop}
+use lib.ListN.{drop}
 use Rattle.records.specs.Places.{allOf}
 use Rattle.rules.specs.Tests.{numberRoom}
 use Rattle.records.proofs.LoopLaws.{room-on, room-end}
@@ -38,18 +38,19 @@ add-i c = search needs
 loop-less : tie.Need-loop-less Inv-loop μ-loop
 loop-less c = search needs
 
-goes-on : (l : tie.At-loop Inv-loop μ-loop) (next : Bool) → l .loop .i < 512 → next ≡ (l .loop .fine && test (getD (l .before .args .t2) (l .loop .i) 0)) → allOf test (drop (l .before .args .n) (l .before .args .t2)) ≡ (next && allOf test (drop (l .loop .i + 1) (l .before .args .t2)))
-goes-on l next more step =
-    room-on test (l .before .args .t2) 0 (l .before .args .n) (l .loop .i) (l .loop .fine) next (search needs)
-    (l .loop .inv)
-    step
-
 loop-again : tie.Need-loop-again Inv-loop μ-loop
-loop-again c = goes-on (c .before .before) (c .both .result) (search needs) (c .both .ensures)
+loop-again c =
+    let at-loop = c .before .before in
+    let args = at-loop .before .args in
+    let loop = at-loop .loop in
+    room-on test (args .t2) 0 (args .n) (loop .i) (loop .fine) (c .both .result) (loop .inv) (c .both .ensures) (search needs)
 
 returns : tie.Need-returns Inv-loop μ-loop
 unfolding numberRoom
-returns c = room-end test (c .before .before .args .t2) (c .before .before .args .n) (c .before .loop .i) (c .before .loop .fine) (search needs) (c .before .loop .inv)
+returns c =
+    let args = c .before .before .args in
+    let loop = c .before .loop in
+    room-end test (args .t2) (args .n) (loop .i) (loop .fine) (loop .inv) (search needs)
 
 pub number-room-spec : {M : Type 1} → statement M
 number-room-spec =
