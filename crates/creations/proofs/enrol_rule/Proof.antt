@@ -59,7 +59,9 @@ done-requires : tie.Need-done-requires
 done-requires c κs = search needs
 
 returns-5 : tie.Need-returns-5
-returns-5 c = search (enrol-done, tests, c .before .before .before .before .before .before .before .before)
+returns-5 c =
+    let turn = c .before .before .before .before .before .before .before .before in
+    search (enrol-done, tests, turn)
 
 pub enrol-rule-spec : {M : Type 1} → statement M
 enrol-rule-spec =

@@ -29,7 +29,9 @@ mul-stand : tie.Need-mul-stand
 mul-stand c = search needs
 
 array-copy-out-stand : tie.Need-array-copy-out-stand
-array-copy-out-stand c = omega (arith, c .before .before .before .before .before .pre (search not-false) .messages)
+array-copy-out-stand c =
+    let tested = c .before .before .before .before in
+    omega (arith, tested .before .pre (not-false _ (tested .if1 .left)) .messages)
 
 status-kind-requires : tie.Need-status-kind-requires
 status-kind-requires c κs = search needs
@@ -48,7 +50,9 @@ mul-status : tie.Need-mul-status
 mul-status c = search needs
 
 array-set-from-status : tie.Need-array-set-from-status
-array-set-from-status c = omega (arith, c .before .before .before .before .before .before .before .before .before .pre (search not-false) .messages)
+array-set-from-status c =
+    let tested = c .before .before .before .before .before .before .before .before in
+    omega (arith, tested .before .pre (not-false _ (tested .if1 .left)) .messages)
 
 holding-requires : tie.Need-holding-requires
 holding-requires c κs = search needs

@@ -29,7 +29,9 @@ mul-stand : tie.Need-mul-stand
 mul-stand c = search needs
 
 array-copy-out-stand : tie.Need-array-copy-out-stand
-array-copy-out-stand c = omega (arith, c .before .before .before .before .before .pre (search not-false) .messages)
+array-copy-out-stand c =
+    let tested = c .before .before .before .before in
+    omega (arith, tested .before .pre (not-false _ (tested .if1 .left)) .messages)
 
 status-kind-requires : tie.Need-status-kind-requires
 status-kind-requires c κs = search needs
@@ -55,7 +57,9 @@ mul-agent-in : tie.Need-mul-agent-in
 mul-agent-in c = search needs
 
 array-copy-out-agent-in : tie.Need-array-copy-out-agent-in
-array-copy-out-agent-in c = omega (arith, c .before .before .before .before .before .before .before .before .before .before .before .before .before .pre (search not-false) .messages)
+array-copy-out-agent-in c =
+    let tested = c .before .before .before .before .before .before .before .before .before .before .before .before in
+    omega (arith, tested .before .pre (not-false _ (tested .if1 .left)) .messages)
 
 agent-in-requires : tie.Need-agent-in-requires
 agent-in-requires c κs = search needs
@@ -67,7 +71,9 @@ refused-requires-5 : tie.Need-refused-requires-5
 refused-requires-5 c κs = search needs
 
 returns-5 : tie.Need-returns-5
-returns-5 c = search (forward-unmapped, tests, c .before .before .before .before .before .before .before .before .before .before)
+returns-5 c =
+    let turn = c .before .before .before .before .before .before .before .before .before .before in
+    search (forward-unmapped, tests, turn)
 
 map-site-requires : tie.Need-map-site-requires
 map-site-requires c κs = search needs
@@ -79,7 +85,10 @@ mul-status : tie.Need-mul-status
 mul-status c = search needs
 
 array-set-from-status : tie.Need-array-set-from-status
-array-set-from-status c = omega (arith, c .before .before .before .before .before .before .before .before .before .before .before .before .before .before .before .before .before .before .before .pre (search not-false) .messages)
+array-set-from-status c =
+    let turn = c .before .before .before .before .before .before .before .before .before .before .before in
+    let tested = turn .before .before .before .before .before .before .before in
+    omega (arith, tested .before .pre (not-false _ (tested .if1 .left)) .messages)
 
 holding-requires : tie.Need-holding-requires
 holding-requires c κs = search needs
@@ -88,7 +97,9 @@ done-requires : tie.Need-done-requires
 done-requires c κs = search needs
 
 returns-6 : tie.Need-returns-6
-returns-6 c = search (forward-done, tests, c .before .before .before .before .before .before .before .before .before .before)
+returns-6 c =
+    let unlocked = c .before .before .before .before .before .before .before .before .before .before in
+    search (forward-done, tests, unlocked)
 
 pub forward-rule-spec : {M : Type 1} → statement M
 forward-rule-spec =

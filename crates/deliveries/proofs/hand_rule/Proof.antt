@@ -29,7 +29,9 @@ mul-stand : tie.Need-mul-stand
 mul-stand c = search needs
 
 array-copy-out-stand : tie.Need-array-copy-out-stand
-array-copy-out-stand c = omega (arith, c .before .before .before .before .before .pre (search not-false) .messages)
+array-copy-out-stand c =
+    let tested = c .before .before .before .before in
+    omega (arith, tested .before .pre (not-false _ (tested .if1 .left)) .messages)
 
 status-kind-requires : tie.Need-status-kind-requires
 status-kind-requires c κs = search needs
@@ -48,7 +50,9 @@ mul-agent-in : tie.Need-mul-agent-in
 mul-agent-in c = search needs
 
 array-copy-out-agent-in : tie.Need-array-copy-out-agent-in
-array-copy-out-agent-in c = omega (arith, c .before .before .before .before .before .before .before .before .before .before .before .pre (search not-false) .messages)
+array-copy-out-agent-in c =
+    let tested = c .before .before .before .before .before .before .before .before .before .before in
+    omega (arith, tested .before .pre (not-false _ (tested .if1 .left)) .messages)
 
 agent-in-requires : tie.Need-agent-in-requires
 agent-in-requires c κs = search needs
@@ -60,13 +64,18 @@ mul-status : tie.Need-mul-status
 mul-status c = search needs
 
 array-set-from-status : tie.Need-array-set-from-status
-array-set-from-status c = omega (arith, c .before .before .before .before .before .before .before .before .before .before .before .before .before .before .before .before .before .before .pre (search not-false) .messages)
+array-set-from-status c =
+    let turn = c .before .before .before .before .before .before .before .before .before .before in
+    let tested = turn .before .before .before .before .before .before .before in
+    omega (arith, tested .before .pre (not-false _ (tested .if1 .left)) .messages)
 
 done-requires : tie.Need-done-requires
 done-requires c κs = search needs
 
 returns-4 : tie.Need-returns-4
-returns-4 c = search (hand-lost, tests, c .before .before .before .before .before .before .before .before .before .before .before, c .before .before .if4 .taken)
+returns-4 c =
+    let turn = c .before .before .before .before .before .before .before .before .before .before .before in
+    search (hand-lost, tests, turn, c .before .before .if4 .taken)
 
 standing-requires-2 : tie.Need-standing-requires-2
 standing-requires-2 c κs = search needs
@@ -75,19 +84,28 @@ mul-status-2 : tie.Need-mul-status-2
 mul-status-2 c = search needs
 
 array-set-from-status-2 : tie.Need-array-set-from-status-2
-array-set-from-status-2 c = omega (arith, c .before .before .before .before .before .before .before .before .before .before .before .before .before .before .before .before .before .before .pre (search not-false) .messages)
+array-set-from-status-2 c =
+    let turn = c .before .before .before .before .before .before .before .before .before .before in
+    let tested = turn .before .before .before .before .before .before .before in
+    omega (arith, tested .before .pre (not-false _ (tested .if1 .left)) .messages)
 
 log-put-requires : tie.Need-log-put-requires
 log-put-requires c κs = search needs
 
 add-t : tie.Need-add-t
-add-t c = omega (arith, c .before .before .before .before .before .before .before .before .before .before .before .before .before .before .before .before .before .before .before .before .pre (search not-false) .handed)
+add-t c =
+    let turn = c .before .before .before .before .before .before .before .before .before .before .before .before in
+    let tested = turn .before .before .before .before .before .before .before in
+    omega (arith, tested .before .pre (not-false _ (tested .if1 .left)) .handed)
 
 done-requires-2 : tie.Need-done-requires-2
 done-requires-2 c κs = search needs
 
 returns-5 : tie.Need-returns-5
-returns-5 c = search (hand-done, tests, c .before .before .before .before .before .before .before .before, c .before .before .before .before .before .before .before .before .before .before .before .before .before)
+returns-5 c =
+    let found = c .before .before .before .before .before .before .before .before in
+    let turn = found .before .before .before .before .before in
+    search (hand-done, tests, found, turn)
 
 pub hand-rule-spec : {M : Type 1} → statement M
 hand-rule-spec =

@@ -49,7 +49,9 @@ done-requires : tie.Need-done-requires
 done-requires c κs = search needs
 
 returns-4 : tie.Need-returns-4
-returns-4 c = search (book-done, tests, c .before .before .before .before .before)
+returns-4 c =
+    let turn = c .before .before .before .before .before in
+    search (book-done, tests, turn)
 
 pub book-rule-spec : {M : Type 1} → statement M
 book-rule-spec =

@@ -24,7 +24,9 @@ number-in-requires-2 : tie.Need-number-in-requires-2
 number-in-requires-2 c κs = search needs
 
 returns-2 : tie.Need-returns-2
-returns-2 c = search (message-read, c .before .before .before .before .before .before .before .before .before .before)
+returns-2 c =
+    let there = c .before .before .before .before .before .before .before .before .before .before in
+    search (message-read, there)
 
 pub message-at-spec : {M : Type 1} → statement M
 message-at-spec =

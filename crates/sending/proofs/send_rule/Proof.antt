@@ -49,7 +49,9 @@ unfolding sendRule
 returns-5 c = search (tests, c .before .before .if4 .left) depth 6
 
 by-number-requires : tie.Need-by-number-requires
-by-number-requires c κs = c .before .before .before .before .before .before .before .before .before .before .pre (search not-false) .messages
+by-number-requires c κs =
+    let start = c .before .before .before .before .before .before .before .before .before .before in
+    start .pre (search not-false) .messages
 
 returns-6 : tie.Need-returns-6
 returns-6 c = search (send-on, tests, c .before .before .if4 .left, c .before .if5 .left, c .before .before .before .before)
