@@ -9,20 +9,18 @@ use lib.ListN.{getD, set}
 use borrow.Author.Tests.{lt-ltb, le-ltb, le-leb, lt-leb, eq-eqb, ne-eqb}
 use Rattle.records.specs.declared.AgentNo.{AgentNo}
 use Rattle.records.specs.declared.MailNo.{MailNo}
-use Rattle.records.specs.declared.Agent.{Agent}
 use Rattle.records.specs.declared.Found.{Found}
 use Rattle.records.specs.declared.Found.the-variants.{Missing, There}
 use Rattle.records.specs.declared.Stand.{Stand}
 use Rattle.records.specs.declared.Status.the-variants.{Queued}
 use Rattle.records.specs.declared.Code.the-variants.{BadState, MessagesFull, Changed, Gap}
-use Rattle.records.specs.Agents.{phaseKind}
+use Rattle.records.specs.Agents.{isBorn, isEnrolled}
 use Rattle.records.specs.Messages.{standing}
 use Rattle.rules.specs.declared.State.{State}
 use Rattle.rules.specs.declared.Reply.{Reply}
-use Rattle.rules.specs.Holding.{agentAt, withMessages}
+use Rattle.rules.specs.Holding.{isAgent, phaseOf, withMessages}
 use Rattle.rules.specs.Answers.{done, refuse, repeated, unless}
 use Rattle.rules.specs.Steps.{sentBy, takeNew, findSent, addresseeOf, retry, byNumber, sendRule}
-use Rattle.rules.proofs.RefusalLaws.{off-phase}
 
 -- whether a number is the next one after those that were counted
 is-next : (k n : ℕ) {sent : ℕ} → sent ≡ k → n ≡ sent + 1 → eqb n (suc k) ≡ true
@@ -49,7 +47,12 @@ module _ (t : State) (a : AgentNo) (n : ℕ) (b : AgentNo) (v : ℕ) {r : Reply}
   unfolding takeNew
   take-full full answer = rw (answer, le-ltb _ _ full)
 
-  pub take-done : {stand : Stand} → t .messages < 512 → stand ≡ standing Queued → r ≡ done (takenIn t a n b v stand) (t .messages) → r ≡ takeNew t a n b v
+  pub take-done :
+      {stand : Stand}
+      → t .messages < 512
+      → stand ≡ standing Queued
+      → r ≡ done (takenIn t a n b v stand) (t .messages)
+      → r ≡ takeNew t a n b v
   unfolding takeNew
   take-done room made answer = rw (answer, made, lt-ltb _ _ room, add-one)
 
@@ -92,7 +95,14 @@ module _ (t : State) (a : AgentNo) (n : ℕ) (b : AgentNo) (v : ℕ) {r : Reply}
         rw (answer, not-next (sentBy t a) n counted other, le-leb 1 n (omega arith), le-leb n (sentBy t a) (rw counted at below))
 
   -- by the tests before it
-  pub send-on : {sound : Bool} {one : Agent} {kind : ℕ} → sound ≡ true → a .0 < t .agents → b .0 < t .agents → one ≡ agentAt t a → kind ≡ phaseKind (one .phase) → (kind ≡ 2 → ⊥) → (kind ≡ 3 → ⊥) → r ≡ byNumber t a n b v → r ≡ unless sound BadState t (sendRule t a n b v)
+  pub send-on :
+      {sound : Bool}
+      → sound ≡ true
+      → isAgent t a ≡ true
+      → isAgent t b ≡ true
+      → isBorn (phaseOf t a) ≡ false
+      → isEnrolled (phaseOf t a) ≡ false
+      → r ≡ byNumber t a n b v
+      → r ≡ unless sound BadState t (sendRule t a n b v)
   unfolding sendRule
-  send-on passed sender addressee found told grown met answer =
-      rw (answer, passed, lt-ltb _ _ sender, lt-ltb _ _ addressee, off-phase t a 2 found told grown, off-phase t a 3 found told met)
+  send-on passed sender addressee grown met answer = rw (answer, passed, sender, addressee, grown, met)

@@ -13,7 +13,11 @@ use Rattle.rules.specs.Fitting.{FitIfSound}
 use Rattle.rules.specs.Answers.{unless}
 use Rattle.rules.specs.Steps.{ruleOf, stepOf}
 
-pub step-by : (t : State) (s : Step) {sound : Bool} {r : Reply} → sound ≡ soundTest t → r ≡ unless sound BadState t (ruleOf t s) → r ≡ stepOf t s
+pub step-by :
+    (t : State) (s : Step) {sound : Bool} {r : Reply}
+    → sound ≡ soundTest t
+    → r ≡ unless sound BadState t (ruleOf t s)
+    → r ≡ stepOf t s
 unfolding stepOf
 step-by t s tested answer = rw tested at answer
 

@@ -1,7 +1,7 @@
 -- `enrol_rule` meets its contract: each return goes by the tests that led to it.
-use borrow.Author.Tests.{not-true, not-false, lt-ltb, le-ltb, eq-eqb, ne-eqb}
 use Rattle.rules.proofs.CreationsDone.{enrol-done}
 use Rattle.rules.specs.Steps.{enrolRule}
+use Rattle.rules.proofs.RefusalLaws.{tests}
 use borrow.Author.Needs.{needs}
 use Rattle.creations.proofs.enrol_rule.Statement.{statement}
 use Rattle.creations.proofs.enrol_rule.Tie as tie
@@ -11,14 +11,14 @@ refused-requires c κs = search needs
 
 returns : tie.Need-returns
 unfolding enrolRule
-returns c = simp (not-true (c .before .before .args .sound) (c .before .if1 .taken), c .refused .ensures)
+returns c = search tests
 
 refused-requires-2 : tie.Need-refused-requires-2
 refused-requires-2 c κs = search needs
 
 returns-2 : tie.Need-returns-2
 unfolding enrolRule
-returns-2 c = simp (not-false (c .before .before .before .before .args .sound) (c .before .before .before .if1 .left), le-ltb _ _ (c .before .if2 .taken), c .refused2 .ensures)
+returns-2 c = search tests
 
 agent-in-requires : tie.Need-agent-in-requires
 agent-in-requires c κs = search needs
@@ -31,7 +31,7 @@ refused-requires-3 c κs = search needs
 
 returns-3 : tie.Need-returns-3
 unfolding enrolRule
-returns-3 c = simp (not-false (c .before .before .before .before .before .before .before .before .args .sound) (c .before .before .before .before .before .before .before .if1 .left), lt-ltb _ _ (c .before .before .before .before .before .if2 .left), ← c .before .before .before .agent-in .ensures, ← c .before .before .phase-kind .ensures, ne-eqb _ _ (c .before .if3 .taken), c .refused3 .ensures)
+returns-3 c = search (tests, c .before .if3 .taken)
 
 is-unheld-requires : tie.Need-is-unheld-requires
 is-unheld-requires c κs = search needs
@@ -41,7 +41,7 @@ refused-requires-4 c κs = search needs
 
 returns-4 : tie.Need-returns-4
 unfolding enrolRule
-returns-4 c = simp (not-false (c .before .before .before .before .before .before .before .before .before .before .before .args .sound) (c .before .before .before .before .before .before .before .before .before .before .if1 .left), lt-ltb _ _ (c .before .before .before .before .before .before .before .before .if2 .left), ← c .before .before .before .before .before .before .agent-in .ensures, ← c .before .before .before .before .before .phase-kind .ensures, eq-eqb _ _ (c .before .before .before .before .if3 .left), ← c .before .before .is-unheld .ensures, not-true (c .before .before .is-unheld .result) (c .before .if4 .taken), c .refused4 .ensures)
+returns-4 c = search tests depth 6
 
 peer-of-requires : tie.Need-peer-of-requires
 peer-of-requires c κs = search needs
@@ -59,7 +59,9 @@ done-requires : tie.Need-done-requires
 done-requires c κs = search needs
 
 returns-5 : tie.Need-returns-5
-returns-5 c = enrol-done (c .before .before .before .before .before .before .before .before .before .before .before .before .before .before .before .args .t) (c .before .before .before .before .before .before .before .before .before .before .before .before .before .before .before .args .b) (not-false (c .before .before .before .before .before .before .before .before .before .before .before .before .before .before .before .args .sound) (c .before .before .before .before .before .before .before .before .before .before .before .before .before .before .if1 .left)) (c .before .before .before .before .before .before .before .before .before .before .before .before .if2 .left) (c .before .before .before .before .before .before .before .before .before .before .agent-in .ensures) (c .before .before .before .before .before .before .before .before .before .phase-kind .ensures) (c .before .before .before .before .before .before .before .before .if3 .left) (c .before .before .before .before .before .before .is-unheld .ensures) (not-false (c .before .before .before .before .before .before .is-unheld .result) (c .before .before .before .before .before .if4 .left)) (c .before .before .before .before .peer-of .ensures) (c .before .before .before .with-phase .ensures) (c .before .before .mapped-here .ensures) (c .before .agent-put .ensures) (c .done .ensures)
+returns-5 c =
+    let turn = c .before .before .before .before .before .before .before .before in
+    search (enrol-done, tests, turn)
 
 pub enrol-rule-spec : {M : Type 1} → statement M
 enrol-rule-spec =

@@ -1,7 +1,7 @@
 -- `spawn_rule` meets its contract: each return goes by the tests that led to it.
-use borrow.Author.Tests.{not-true, not-false, lt-ltb, le-ltb, eq-eqb, ne-eqb}
 use Rattle.rules.proofs.CreationsDone.{spawn-done}
 use Rattle.rules.specs.Steps.{spawnRule}
+use Rattle.rules.proofs.RefusalLaws.{tests}
 use borrow.Author.Needs.{needs}
 use Rattle.creations.proofs.spawn_rule.Statement.{statement}
 use Rattle.creations.proofs.spawn_rule.Tie as tie
@@ -11,14 +11,14 @@ refused-requires c κs = search needs
 
 returns : tie.Need-returns
 unfolding spawnRule
-returns c = simp (not-true (c .before .before .args .sound) (c .before .if1 .taken), c .refused .ensures)
+returns c = search tests
 
 refused-requires-2 : tie.Need-refused-requires-2
 refused-requires-2 c κs = search needs
 
 returns-2 : tie.Need-returns-2
 unfolding spawnRule
-returns-2 c = simp (not-false (c .before .before .before .before .args .sound) (c .before .before .before .if1 .left), le-ltb _ _ (c .before .if2 .taken), c .refused2 .ensures)
+returns-2 c = search tests
 
 agent-in-requires : tie.Need-agent-in-requires
 agent-in-requires c κs = search needs
@@ -31,14 +31,14 @@ refused-requires-3 c κs = search needs
 
 returns-3 : tie.Need-returns-3
 unfolding spawnRule
-returns-3 c = simp (not-false (c .before .before .before .before .before .before .before .before .args .sound) (c .before .before .before .before .before .before .before .if1 .left), lt-ltb _ _ (c .before .before .before .before .before .if2 .left), ← c .before .before .before .agent-in .ensures, ← c .before .before .phase-kind .ensures, ne-eqb _ _ (c .before .if3 .taken), c .refused3 .ensures)
+returns-3 c = search (tests, c .before .if3 .taken)
 
 refused-requires-4 : tie.Need-refused-requires-4
 refused-requires-4 c κs = search needs
 
 returns-4 : tie.Need-returns-4
 unfolding spawnRule
-returns-4 c = simp (not-false (c .before .before .before .before .before .before .before .before .before .args .sound) (c .before .before .before .before .before .before .before .before .if1 .left), lt-ltb _ _ (c .before .before .before .before .before .before .if2 .left), ← c .before .before .before .before .agent-in .ensures, ← c .before .before .before .phase-kind .ensures, eq-eqb _ _ (c .before .before .if3 .left), le-ltb _ _ (c .before .if4 .taken), c .refused4 .ensures)
+returns-4 c = search tests depth 6
 
 with-phase-requires : tie.Need-with-phase-requires
 with-phase-requires c κs = search needs
@@ -59,7 +59,9 @@ done-requires : tie.Need-done-requires
 done-requires c κs = search needs
 
 returns-5 : tie.Need-returns-5
-returns-5 c = spawn-done (c .before .before .before .before .before .before .before .before .before .before .before .before .before .before .args .t) (c .before .before .before .before .before .before .before .before .before .before .before .before .before .before .args .a) (not-false (c .before .before .before .before .before .before .before .before .before .before .before .before .before .before .args .sound) (c .before .before .before .before .before .before .before .before .before .before .before .before .before .if1 .left)) (c .before .before .before .before .before .before .before .before .before .before .before .if2 .left) (c .before .before .before .before .before .before .before .before .before .agent-in .ensures) (c .before .before .before .before .before .before .before .before .phase-kind .ensures) (c .before .before .before .before .before .before .before .if3 .left) (c .before .before .before .before .before .before .if4 .left) (c .before .before .before .before .with-phase .ensures) (c .before .before .before .born-of .ensures) (c .before .before .agent-put .ensures) (c .before .agent-put2 .ensures) (c .done .ensures)
+returns-5 c =
+    let turn = c .before .before .before .before .before .before .before in
+    search (spawn-done, tests, turn)
 
 pub spawn-rule-spec : {M : Type 1} → statement M
 spawn-rule-spec =

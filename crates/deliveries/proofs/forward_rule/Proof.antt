@@ -1,8 +1,9 @@
 -- `forward_rule` meets its contract: each return goes by the tests that led to it.
-use borrow.Author.Tests.{not-true, not-false, lt-ltb, le-ltb, eq-eqb, ne-eqb}
+use borrow.Author.Tests.{not-false}
 use native.Mathlib.Omega.{arith}
-use Rattle.rules.proofs.DeliveriesDone.{forward-done}
+use Rattle.rules.proofs.DeliveriesDone.{forward-unmapped, forward-done}
 use Rattle.rules.specs.Steps.{forwardRule}
+use Rattle.rules.proofs.RefusalLaws.{tests}
 use borrow.Author.Needs.{needs}
 use Rattle.deliveries.proofs.forward_rule.Statement.{statement}
 use Rattle.deliveries.proofs.forward_rule.Tie as tie
@@ -12,14 +13,14 @@ refused-requires c κs = search needs
 
 returns : tie.Need-returns
 unfolding forwardRule
-returns c = simp (not-true (c .before .before .args .sound) (c .before .if1 .taken), c .refused .ensures)
+returns c = search tests
 
 refused-requires-2 : tie.Need-refused-requires-2
 refused-requires-2 c κs = search needs
 
 returns-2 : tie.Need-returns-2
 unfolding forwardRule
-returns-2 c = simp (not-false (c .before .before .before .before .args .sound) (c .before .before .before .if1 .left), le-ltb _ _ (c .before .if2 .taken), c .refused2 .ensures)
+returns-2 c = search tests
 
 cast-i : tie.Need-cast-i
 cast-i c = search needs
@@ -28,7 +29,9 @@ mul-stand : tie.Need-mul-stand
 mul-stand c = search needs
 
 array-copy-out-stand : tie.Need-array-copy-out-stand
-array-copy-out-stand c = omega (arith, (c .before .before .before .before .before .pre (not-false (c .before .before .before .before .before .args .sound) (c .before .before .before .before .if1 .left))) .messages)
+array-copy-out-stand c =
+    let tested = c .before .before .before .before in
+    omega (arith, tested .before .pre (not-false _ (tested .if1 .left)) .messages)
 
 status-kind-requires : tie.Need-status-kind-requires
 status-kind-requires c κs = search needs
@@ -38,7 +41,7 @@ refused-requires-3 c κs = search needs
 
 returns-3 : tie.Need-returns-3
 unfolding forwardRule
-returns-3 c = simp (not-false (c .before .before .before .before .before .before .before .before .before .args .sound) (c .before .before .before .before .before .before .before .before .if1 .left), lt-ltb _ _ (c .before .before .before .before .before .before .if2 .left), ← c .before .before .status-kind .ensures, ne-eqb _ _ (c .before .if3 .taken), c .refused3 .ensures)
+returns-3 c = search (tests, c .before .if3 .taken)
 
 is-unheld-requires : tie.Need-is-unheld-requires
 is-unheld-requires c κs = search needs
@@ -48,13 +51,15 @@ refused-requires-4 c κs = search needs
 
 returns-4 : tie.Need-returns-4
 unfolding forwardRule
-returns-4 c = simp (not-false (c .before .before .before .before .before .before .before .before .before .before .before .before .args .sound) (c .before .before .before .before .before .before .before .before .before .before .before .if1 .left), lt-ltb _ _ (c .before .before .before .before .before .before .before .before .before .if2 .left), ← c .before .before .before .before .before .status-kind .ensures, eq-eqb _ _ (c .before .before .before .before .if3 .left), ← c .before .before .is-unheld .ensures, not-true (c .before .before .is-unheld .result) (c .before .if4 .taken), c .refused4 .ensures)
+returns-4 c = search tests depth 6
 
 mul-agent-in : tie.Need-mul-agent-in
 mul-agent-in c = search needs
 
 array-copy-out-agent-in : tie.Need-array-copy-out-agent-in
-array-copy-out-agent-in c = omega (arith, (c .before .before .before .before .before .before .before .before .before .before .before .before .before .pre (not-false (c .before .before .before .before .before .before .before .before .before .before .before .before .before .args .sound) (c .before .before .before .before .before .before .before .before .before .before .before .before .if1 .left))) .messages)
+array-copy-out-agent-in c =
+    let tested = c .before .before .before .before .before .before .before .before .before .before .before .before in
+    omega (arith, tested .before .pre (not-false _ (tested .if1 .left)) .messages)
 
 agent-in-requires : tie.Need-agent-in-requires
 agent-in-requires c κs = search needs
@@ -66,8 +71,9 @@ refused-requires-5 : tie.Need-refused-requires-5
 refused-requires-5 c κs = search needs
 
 returns-5 : tie.Need-returns-5
-unfolding forwardRule
-returns-5 c = simp (not-false (c .before .before .before .before .before .before .before .before .before .before .before .before .before .before .before .before .before .before .args .sound) (c .before .before .before .before .before .before .before .before .before .before .before .before .before .before .before .before .before .if1 .left), lt-ltb _ _ (c .before .before .before .before .before .before .before .before .before .before .before .before .before .before .before .if2 .left), ← c .before .before .before .before .before .before .before .before .before .before .before .status-kind .ensures, eq-eqb _ _ (c .before .before .before .before .before .before .before .before .before .before .if3 .left), ← c .before .before .before .before .before .before .before .before .is-unheld .ensures, not-false (c .before .before .before .before .before .before .before .before .is-unheld .result) (c .before .before .before .before .before .before .before .if4 .left), ← c .before .before .before .agent-in .ensures, ← c .before .before .is-mapped .ensures, not-true (c .before .before .is-mapped .result) (c .before .if5 .taken), c .refused5 .ensures)
+returns-5 c =
+    let turn = c .before .before .before .before .before .before .before .before .before .before in
+    search (forward-unmapped, tests, turn)
 
 map-site-requires : tie.Need-map-site-requires
 map-site-requires c κs = search needs
@@ -79,7 +85,10 @@ mul-status : tie.Need-mul-status
 mul-status c = search needs
 
 array-set-from-status : tie.Need-array-set-from-status
-array-set-from-status c = omega (arith, (c .before .before .before .before .before .before .before .before .before .before .before .before .before .before .before .before .before .before .before .pre (not-false (c .before .before .before .before .before .before .before .before .before .before .before .before .before .before .before .before .before .before .before .args .sound) (c .before .before .before .before .before .before .before .before .before .before .before .before .before .before .before .before .before .before .if1 .left))) .messages)
+array-set-from-status c =
+    let turn = c .before .before .before .before .before .before .before .before .before .before .before in
+    let tested = turn .before .before .before .before .before .before .before in
+    omega (arith, tested .before .pre (not-false _ (tested .if1 .left)) .messages)
 
 holding-requires : tie.Need-holding-requires
 holding-requires c κs = search needs
@@ -88,7 +97,9 @@ done-requires : tie.Need-done-requires
 done-requires c κs = search needs
 
 returns-6 : tie.Need-returns-6
-returns-6 c = forward-done (c .before .before .before .before .before .before .before .before .before .before .before .before .before .before .before .before .before .before .before .before .before .args .t) (c .before .before .before .before .before .before .before .before .before .before .before .before .before .before .before .before .before .before .before .before .before .args .m) (not-false (c .before .before .before .before .before .before .before .before .before .before .before .before .before .before .before .before .before .before .before .before .before .args .sound) (c .before .before .before .before .before .before .before .before .before .before .before .before .before .before .before .before .before .before .before .before .if1 .left)) (c .before .before .before .before .before .before .before .before .before .before .before .before .before .before .before .before .before .before .if2 .left) (c .before .before .before .before .before .before .before .before .before .before .before .before .before .before .status-kind .ensures) (c .before .before .before .before .before .before .before .before .before .before .before .before .before .if3 .left) (c .before .before .before .before .before .before .before .before .before .before .before .is-unheld .ensures) (not-false (c .before .before .before .before .before .before .before .before .before .before .before .is-unheld .result) (c .before .before .before .before .before .before .before .before .before .before .if4 .left)) (c .before .before .before .before .before .before .agent-in .ensures) (c .before .before .before .before .before .is-mapped .ensures) (not-false (c .before .before .before .before .before .is-mapped .result) (c .before .before .before .before .if5 .left)) (c .before .before .before .map-site .ensures) (c .before .before .standing .ensures) (c .before .holding .ensures) (c .done .ensures)
+returns-6 c =
+    let unlocked = c .before .before .before .before .before .before .before .before .before .before in
+    search (forward-done, tests, unlocked)
 
 pub forward-rule-spec : {M : Type 1} → statement M
 forward-rule-spec =

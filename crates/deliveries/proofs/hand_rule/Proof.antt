@@ -1,8 +1,9 @@
 -- `hand_rule` meets its contract: each return goes by the tests that led to it.
-use borrow.Author.Tests.{not-true, not-false, lt-ltb, le-ltb, ne-eqb}
+use borrow.Author.Tests.{not-false}
 use native.Mathlib.Omega.{arith}
 use Rattle.rules.proofs.DeliveriesDone.{hand-done, hand-lost}
 use Rattle.rules.specs.Steps.{handRule}
+use Rattle.rules.proofs.RefusalLaws.{tests}
 use borrow.Author.Needs.{needs}
 use Rattle.deliveries.proofs.hand_rule.Statement.{statement}
 use Rattle.deliveries.proofs.hand_rule.Tie as tie
@@ -12,14 +13,14 @@ refused-requires c κs = search needs
 
 returns : tie.Need-returns
 unfolding handRule
-returns c = simp (not-true (c .before .before .args .sound) (c .before .if1 .taken), c .refused .ensures)
+returns c = search tests
 
 refused-requires-2 : tie.Need-refused-requires-2
 refused-requires-2 c κs = search needs
 
 returns-2 : tie.Need-returns-2
 unfolding handRule
-returns-2 c = simp (not-false (c .before .before .before .before .args .sound) (c .before .before .before .if1 .left), le-ltb _ _ (c .before .if2 .taken), c .refused2 .ensures)
+returns-2 c = search tests
 
 cast-i : tie.Need-cast-i
 cast-i c = search needs
@@ -28,7 +29,9 @@ mul-stand : tie.Need-mul-stand
 mul-stand c = search needs
 
 array-copy-out-stand : tie.Need-array-copy-out-stand
-array-copy-out-stand c = omega (arith, (c .before .before .before .before .before .pre (not-false (c .before .before .before .before .before .args .sound) (c .before .before .before .before .if1 .left))) .messages)
+array-copy-out-stand c =
+    let tested = c .before .before .before .before in
+    omega (arith, tested .before .pre (not-false _ (tested .if1 .left)) .messages)
 
 status-kind-requires : tie.Need-status-kind-requires
 status-kind-requires c κs = search needs
@@ -38,7 +41,7 @@ refused-requires-3 c κs = search needs
 
 returns-3 : tie.Need-returns-3
 unfolding handRule
-returns-3 c = simp (not-false (c .before .before .before .before .before .before .before .before .before .args .sound) (c .before .before .before .before .before .before .before .before .if1 .left), lt-ltb _ _ (c .before .before .before .before .before .before .if2 .left), ← c .before .before .status-kind .ensures, ne-eqb _ _ (c .before .if3 .taken), c .refused3 .ensures)
+returns-3 c = search (tests, c .before .if3 .taken)
 
 travels-to-requires : tie.Need-travels-to-requires
 travels-to-requires c κs = search needs
@@ -47,7 +50,9 @@ mul-agent-in : tie.Need-mul-agent-in
 mul-agent-in c = search needs
 
 array-copy-out-agent-in : tie.Need-array-copy-out-agent-in
-array-copy-out-agent-in c = omega (arith, (c .before .before .before .before .before .before .before .before .before .before .before .pre (not-false (c .before .before .before .before .before .before .before .before .before .before .before .args .sound) (c .before .before .before .before .before .before .before .before .before .before .if1 .left))) .messages)
+array-copy-out-agent-in c =
+    let tested = c .before .before .before .before .before .before .before .before .before .before in
+    omega (arith, tested .before .pre (not-false _ (tested .if1 .left)) .messages)
 
 agent-in-requires : tie.Need-agent-in-requires
 agent-in-requires c κs = search needs
@@ -59,13 +64,18 @@ mul-status : tie.Need-mul-status
 mul-status c = search needs
 
 array-set-from-status : tie.Need-array-set-from-status
-array-set-from-status c = omega (arith, (c .before .before .before .before .before .before .before .before .before .before .before .before .before .before .before .before .before .before .pre (not-false (c .before .before .before .before .before .before .before .before .before .before .before .before .before .before .before .before .before .before .args .sound) (c .before .before .before .before .before .before .before .before .before .before .before .before .before .before .before .before .before .if1 .left))) .messages)
+array-set-from-status c =
+    let turn = c .before .before .before .before .before .before .before .before .before .before in
+    let tested = turn .before .before .before .before .before .before .before in
+    omega (arith, tested .before .pre (not-false _ (tested .if1 .left)) .messages)
 
 done-requires : tie.Need-done-requires
 done-requires c κs = search needs
 
 returns-4 : tie.Need-returns-4
-returns-4 c = hand-lost (c .before .before .before .before .before .before .before .before .before .before .before .before .before .before .before .before .before .before .before .args .t) (c .before .before .before .before .before .before .before .before .before .before .before .before .before .before .before .before .before .before .before .args .m) (not-false (c .before .before .before .before .before .before .before .before .before .before .before .before .before .before .before .before .before .before .before .args .sound) (c .before .before .before .before .before .before .before .before .before .before .before .before .before .before .before .before .before .before .if1 .left)) (c .before .before .before .before .before .before .before .before .before .before .before .before .before .before .before .before .if2 .left) (c .before .before .before .before .before .before .before .before .before .before .before .before .status-kind .ensures) (c .before .before .before .before .before .before .before .before .before .before .before .if3 .left) (c .before .before .before .before .before .before .before .before .before .before .travels-to .ensures) (c .before .before .before .before .before .before .agent-in .ensures) (c .before .before .if4 .taken) (c .before .standing .ensures) (c .done .ensures)
+returns-4 c =
+    let turn = c .before .before .before .before .before .before .before .before .before .before .before in
+    search (hand-lost, tests, turn, c .before .before .if4 .taken)
 
 standing-requires-2 : tie.Need-standing-requires-2
 standing-requires-2 c κs = search needs
@@ -74,19 +84,28 @@ mul-status-2 : tie.Need-mul-status-2
 mul-status-2 c = search needs
 
 array-set-from-status-2 : tie.Need-array-set-from-status-2
-array-set-from-status-2 c = omega (arith, (c .before .before .before .before .before .before .before .before .before .before .before .before .before .before .before .before .before .before .pre (not-false (c .before .before .before .before .before .before .before .before .before .before .before .before .before .before .before .before .before .before .args .sound) (c .before .before .before .before .before .before .before .before .before .before .before .before .before .before .before .before .before .if1 .left))) .messages)
+array-set-from-status-2 c =
+    let turn = c .before .before .before .before .before .before .before .before .before .before in
+    let tested = turn .before .before .before .before .before .before .before in
+    omega (arith, tested .before .pre (not-false _ (tested .if1 .left)) .messages)
 
 log-put-requires : tie.Need-log-put-requires
 log-put-requires c κs = search needs
 
 add-t : tie.Need-add-t
-add-t c = omega (arith, (c .before .before .before .before .before .before .before .before .before .before .before .before .before .before .before .before .before .before .before .before .pre (not-false (c .before .before .before .before .before .before .before .before .before .before .before .before .before .before .before .before .before .before .before .before .args .sound) (c .before .before .before .before .before .before .before .before .before .before .before .before .before .before .before .before .before .before .before .if1 .left))) .handed)
+add-t c =
+    let turn = c .before .before .before .before .before .before .before .before .before .before .before .before in
+    let tested = turn .before .before .before .before .before .before .before in
+    omega (arith, tested .before .pre (not-false _ (tested .if1 .left)) .handed)
 
 done-requires-2 : tie.Need-done-requires-2
 done-requires-2 c κs = search needs
 
 returns-5 : tie.Need-returns-5
-returns-5 c = hand-done (c .before .before .before .before .before .before .before .before .before .before .before .before .before .before .before .before .before .before .before .before .before .args .t) (c .before .before .before .before .before .before .before .before .before .before .before .before .before .before .before .before .before .before .before .before .before .args .m) (not-false (c .before .before .before .before .before .before .before .before .before .before .before .before .before .before .before .before .before .before .before .before .before .args .sound) (c .before .before .before .before .before .before .before .before .before .before .before .before .before .before .before .before .before .before .before .before .if1 .left)) (c .before .before .before .before .before .before .before .before .before .before .before .before .before .before .before .before .before .before .if2 .left) (c .before .before .before .before .before .before .before .before .before .before .before .before .before .before .status-kind .ensures) (c .before .before .before .before .before .before .before .before .before .before .before .before .before .if3 .left) (c .before .before .before .before .before .before .before .before .before .before .before .before .travels-to .ensures) (c .before .before .before .before .before .before .before .before .agent-in .ensures) (c .before .before .before .before .if4 .left) (c .before .before .before .standing2 .ensures) (c .before .log-put .ensures) (c .done2 .ensures)
+returns-5 c =
+    let found = c .before .before .before .before .before .before .before .before in
+    let turn = found .before .before .before .before .before in
+    search (hand-done, tests, found, turn)
 
 pub hand-rule-spec : {M : Type 1} → statement M
 hand-rule-spec =

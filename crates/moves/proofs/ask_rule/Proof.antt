@@ -1,7 +1,7 @@
 -- `ask_rule` meets its contract: each return goes by the tests that led to it.
-use borrow.Author.Tests.{not-true, not-false, lt-ltb, le-ltb, ne-eqb}
 use Rattle.rules.proofs.MovesDone.{ask-done}
 use Rattle.rules.specs.Steps.{askRule}
+use Rattle.rules.proofs.RefusalLaws.{tests}
 use borrow.Author.Needs.{needs}
 use Rattle.moves.proofs.ask_rule.Statement.{statement}
 use Rattle.moves.proofs.ask_rule.Tie as tie
@@ -11,21 +11,21 @@ refused-requires c κs = search needs
 
 returns : tie.Need-returns
 unfolding askRule
-returns c = simp (not-true (c .before .before .args .sound) (c .before .if1 .taken), c .refused .ensures)
+returns c = search tests
 
 refused-requires-2 : tie.Need-refused-requires-2
 refused-requires-2 c κs = search needs
 
 returns-2 : tie.Need-returns-2
 unfolding askRule
-returns-2 c = simp (not-false (c .before .before .before .before .args .sound) (c .before .before .before .if1 .left), le-ltb _ _ (c .before .if2 .taken), c .refused2 .ensures)
+returns-2 c = search tests
 
 refused-requires-3 : tie.Need-refused-requires-3
 refused-requires-3 c κs = search needs
 
 returns-3 : tie.Need-returns-3
 unfolding askRule
-returns-3 c = simp (not-false (c .before .before .before .before .before .before .args .sound) (c .before .before .before .before .before .if1 .left), lt-ltb _ _ (c .before .before .before .if2 .left), le-ltb _ _ (c .before .if3 .taken), c .refused3 .ensures)
+returns-3 c = search tests
 
 agent-in-requires : tie.Need-agent-in-requires
 agent-in-requires c κs = search needs
@@ -38,7 +38,7 @@ refused-requires-4 c κs = search needs
 
 returns-4 : tie.Need-returns-4
 unfolding askRule
-returns-4 c = simp (not-false (c .before .before .before .before .before .before .before .before .before .before .args .sound) (c .before .before .before .before .before .before .before .before .before .if1 .left), lt-ltb _ _ (c .before .before .before .before .before .before .before .if2 .left), lt-ltb _ _ (c .before .before .before .before .before .if3 .left), ← c .before .before .before .agent-in .ensures, ← c .before .before .phase-kind .ensures, ne-eqb _ _ (c .before .if4 .taken), c .refused4 .ensures)
+returns-4 c = search (tests, c .before .if4 .taken)
 
 with-phase-requires : tie.Need-with-phase-requires
 with-phase-requires c κs = search needs
@@ -50,7 +50,7 @@ done-requires : tie.Need-done-requires
 done-requires c κs = search needs
 
 returns-5 : tie.Need-returns-5
-returns-5 c = ask-done (c .before .before .before .before .before .before .before .before .before .before .before .before .args .t) (c .before .before .before .before .before .before .before .before .before .before .before .before .args .a) (not-false (c .before .before .before .before .before .before .before .before .before .before .before .before .args .sound) (c .before .before .before .before .before .before .before .before .before .before .before .if1 .left)) (c .before .before .before .before .before .before .before .before .before .if2 .left) (c .before .before .before .before .before .agent-in .ensures) (c .before .before .before .before .phase-kind .ensures) (c .before .before .before .before .before .before .before .before .before .before .before .before .args .u) (c .before .before .before .before .before .before .before .if3 .left) (c .before .before .before .if4 .left) (c .before .before .with-phase .ensures) (c .before .agent-put .ensures) (c .done .ensures)
+returns-5 c = search (ask-done, tests, c .before .before .before)
 
 pub ask-rule-spec : {M : Type 1} → statement M
 ask-rule-spec =

@@ -1,8 +1,7 @@
 -- `leap_rule` meets its contract: each return goes by the tests that led to it.
-use borrow.Author.Tests.{not-true, not-false, lt-ltb, le-ltb, ne-eqb}
 use Rattle.rules.proofs.MovesDone.{leap-done}
 use Rattle.rules.specs.Steps.{leapRule}
-use Rattle.rules.proofs.RefusalLaws.{unsound-refused, absent-refused, off-turn-refused}
+use Rattle.rules.proofs.RefusalLaws.{tests}
 use borrow.Author.Needs.{needs}
 use Rattle.moves.proofs.leap_rule.Statement.{statement}
 use Rattle.moves.proofs.leap_rule.Tie as tie
@@ -12,14 +11,14 @@ refused-requires c κs = search needs
 
 returns : tie.Need-returns
 unfolding leapRule
-returns c = search (unsound-refused, not-true)
+returns c = search tests
 
 refused-requires-2 : tie.Need-refused-requires-2
 refused-requires-2 c κs = search needs
 
 returns-2 : tie.Need-returns-2
 unfolding leapRule
-returns-2 c = search (absent-refused, not-false)
+returns-2 c = search tests
 
 agent-in-requires : tie.Need-agent-in-requires
 agent-in-requires c κs = search needs
@@ -32,7 +31,7 @@ refused-requires-3 c κs = search needs
 
 returns-3 : tie.Need-returns-3
 unfolding leapRule
-returns-3 c = search (off-turn-refused, not-false, c .before .if3 .taken)
+returns-3 c = search (tests, c .before .if3 .taken)
 
 target-of-requires : tie.Need-target-of-requires
 target-of-requires c κs = search needs
@@ -50,7 +49,9 @@ done-requires : tie.Need-done-requires
 done-requires c κs = search needs
 
 returns-4 : tie.Need-returns-4
-returns-4 c = leap-done (c .before .before .before .before .before .before .before .before .before .before .before .before .args .t) (c .before .before .before .before .before .before .before .before .before .before .before .before .args .a) (not-false (c .before .before .before .before .before .before .before .before .before .before .before .before .args .sound) (c .before .before .before .before .before .before .before .before .before .before .before .if1 .left)) (c .before .before .before .before .before .before .before .before .before .if2 .left) (c .before .before .before .before .before .before .before .agent-in .ensures) (c .before .before .before .before .before .before .phase-kind .ensures) (c .before .before .before .before .before .if3 .left) (c .before .before .before .before .target-of .ensures) (c .before .before .before .with-phase .ensures) (c .before .before .moved-to .ensures) (c .before .agent-put .ensures) (c .done .ensures)
+returns-4 c =
+    let turn = c .before .before .before .before .before in
+    search (leap-done, tests, turn)
 
 pub leap-rule-spec : {M : Type 1} → statement M
 leap-rule-spec =

@@ -1,8 +1,7 @@
 -- `settle_rule` meets its contract: each return goes by the tests that led to it.
-use borrow.Author.Tests.{not-true, not-false, lt-ltb, le-ltb, ne-eqb}
 use Rattle.rules.proofs.MovesDone.{settle-done}
 use Rattle.rules.specs.Steps.{settleRule}
-use Rattle.rules.proofs.RefusalLaws.{unsound-refused, absent-refused, off-turn-refused}
+use Rattle.rules.proofs.RefusalLaws.{tests}
 use borrow.Author.Needs.{needs}
 use Rattle.moves.proofs.settle_rule.Statement.{statement}
 use Rattle.moves.proofs.settle_rule.Tie as tie
@@ -12,14 +11,14 @@ refused-requires c κs = search needs
 
 returns : tie.Need-returns
 unfolding settleRule
-returns c = search (unsound-refused, not-true)
+returns c = search tests
 
 refused-requires-2 : tie.Need-refused-requires-2
 refused-requires-2 c κs = search needs
 
 returns-2 : tie.Need-returns-2
 unfolding settleRule
-returns-2 c = search (absent-refused, not-false)
+returns-2 c = search tests
 
 agent-in-requires : tie.Need-agent-in-requires
 agent-in-requires c κs = search needs
@@ -32,7 +31,7 @@ refused-requires-3 c κs = search needs
 
 returns-3 : tie.Need-returns-3
 unfolding settleRule
-returns-3 c = search (off-turn-refused, not-false, c .before .if3 .taken)
+returns-3 c = search (tests, c .before .if3 .taken)
 
 with-phase-requires : tie.Need-with-phase-requires
 with-phase-requires c κs = search needs
@@ -44,7 +43,7 @@ done-requires : tie.Need-done-requires
 done-requires c κs = search needs
 
 returns-4 : tie.Need-returns-4
-returns-4 c = search (settle-done, not-false)
+returns-4 c = search (settle-done, tests)
 
 pub settle-rule-spec : {M : Type 1} → statement M
 settle-rule-spec =

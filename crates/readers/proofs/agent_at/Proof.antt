@@ -12,7 +12,7 @@ agent-in-requires : tie.Need-agent-in-requires
 agent-in-requires c κs = search needs
 
 returns-2 : tie.Need-returns-2
-returns-2 c = agent-read (c .before .before .before .before .args .t) (c .before .before .before .before .args .a) (c .before .before .if1 .left) (c .agent-in .ensures)
+returns-2 c = search agent-read
 
 pub agent-at-spec : {M : Type 1} → statement M
 agent-at-spec = tie.close (tie.spec returns agent-in-requires returns-2)

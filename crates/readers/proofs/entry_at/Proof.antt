@@ -1,10 +1,9 @@
 -- `readers::entry_at` meets its contract. The loop's invariant: what is looked for is among the entries that are left.
 use Prim.Native.Nat.{_≤_, _-_}
-use mathlib.Core.Path.{refl, _∙_, sym, ap}
+use mathlib.Core.Path.{_≡_, refl}
+use lib.ListN.{length}
 use native.Mathlib.Omega.{arith}
-use Rattle.records.specs.declared.AgentNo.{AgentNo}
-use Rattle.rules.specs.Tests.{entryIn}
-use Rattle.rules.proofs.InboxSearch.{Left, entry-made, whole-read, left-found, left-on, left-past, left-none}
+use Rattle.rules.proofs.InboxSearch.{Left, left-found, left-on, left-past, none-left}
 use borrow.Author.Needs.{needs}
 use Rattle.readers.proofs.entry_at.Statement.{statement}
 use Rattle.readers.proofs.entry_at.Tie as tie
@@ -48,10 +47,8 @@ number-in-requires-2 c κs = search needs
 returns : tie.Need-returns Inv-loop μ-loop
 returns c =
     let turn = c .before .before .before .before .before .before .before .before .before .before in
-    let whole = turn .before in
-    let start = whole .before in
-    let args = start .args in
-    entry-made (args .sender) (args .number) (args .value) (entryIn (args .t2) (turn .loop .i)) (c .before .before .party-in2 .ensures) (c .before .number-in .ensures) (c .number-in2 .ensures) ∙ (left-found (args .sender) (args .number) (args .addressee) (args .value) (args .a) (args .t2) (args .place) (whole .log-length .result) (turn .loop .left) (turn .loop .i) (c .before .before .before .before .before .before .before .before .before .loop-test .taken) (omega (arith, start .good, whole .log-length .ensures)) (turn .loop .inv .1) (ap (λ (x : AgentNo). x .0) (sym (c .before .before .before .before .before .before .before .party-in .ensures)) ∙ c .before .before .before .before .if1 .taken) (c .before .before .before .if2 .taken) ∙ whole-read (args .sender) (args .number) (args .addressee) (args .value) (args .a) (args .t2) (args .place) (args .handed) (omega (arith, start .good)) (whole .log-length .ensures))
+    let whole : length (turn .before .before .args .t2) ≡ 512 = omega (arith, turn .before .before .good) in
+    search (left-found, turn)
 
 sub-left : tie.Need-sub-left Inv-loop μ-loop
 sub-left c = omega arith
@@ -62,10 +59,8 @@ loop-less c = omega arith
 loop-again : tie.Need-loop-again Inv-loop μ-loop
 loop-again c =
     let turn = c .before .before .before .before .before .before .before in
-    let whole = turn .before in
-    let start = whole .before in
-    let args = start .args in
-    (omega arith, left-on (args .sender) (args .number) (args .addressee) (args .value) (args .a) (args .t2) (args .place) (whole .log-length .result) (turn .loop .left) (turn .loop .i) (c .before .before .before .before .before .before .loop-test .taken) (omega (arith, start .good, whole .log-length .ensures)) (turn .loop .inv .1) (ap (λ (x : AgentNo). x .0) (sym (c .before .before .before .before .party-in .ensures)) ∙ c .before .if1 .taken) (c .if2 .left))
+    let whole : length (turn .before .before .args .t2) ≡ 512 = omega (arith, turn .before .before .good) in
+    (omega arith, search (left-on, turn, c .if2 .left))
 
 loop-less-2 : tie.Need-loop-less-2 Inv-loop μ-loop
 loop-less-2 c = omega arith
@@ -73,18 +68,14 @@ loop-less-2 c = omega arith
 loop-again-2 : tie.Need-loop-again-2 Inv-loop μ-loop
 loop-again-2 c =
     let turn = c .before .before .before .before .before .before in
-    let whole = turn .before in
-    let start = whole .before in
-    let args = start .args in
-    (omega arith, left-past (args .sender) (args .number) (args .addressee) (args .value) (args .a) (args .t2) (args .place) (whole .log-length .result) (turn .loop .left) (turn .loop .i) (c .before .before .before .before .before .loop-test .taken) (omega (arith, start .good, whole .log-length .ensures)) (turn .loop .inv .1) (λ equal. c .if1 .left (ap (λ (x : AgentNo). x .0) (c .before .before .before .party-in .ensures) ∙ equal)))
+    let whole : length (turn .before .before .args .t2) ≡ 512 = omega (arith, turn .before .before .good) in
+    (omega arith, search (left-past, turn, c .if1 .left))
 
 returns-2 : tie.Need-returns-2 Inv-loop μ-loop
 returns-2 c =
     let turn = c .before in
-    let whole = turn .before in
-    let start = whole .before in
-    let args = start .args in
-    left-none (args .sender) (args .number) (args .addressee) (args .value) (args .a) (args .t2) (args .place) (whole .log-length .result) (turn .loop .left) (turn .loop .i) (c .loop-test .left) (turn .loop .inv .1) ∙ whole-read (args .sender) (args .number) (args .addressee) (args .value) (args .a) (args .t2) (args .place) (args .handed) (omega (arith, start .good)) (whole .log-length .ensures)
+    let whole : length (turn .before .before .args .t2) ≡ 512 = omega (arith, turn .before .before .good) in
+    search none-left
 
 pub entry-at-spec : {M : Type 1} → statement M
 entry-at-spec =

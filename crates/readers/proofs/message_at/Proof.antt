@@ -24,7 +24,9 @@ number-in-requires-2 : tie.Need-number-in-requires-2
 number-in-requires-2 c κs = search needs
 
 returns-2 : tie.Need-returns-2
-returns-2 c = message-read (c .before .before .before .before .before .before .before .before .before .before .before .before .args .t) (c .before .before .before .before .before .before .before .before .before .before .before .before .args .m) (c .before .before .before .before .before .before .before .before .before .before .if1 .left) (c .before .before .before .before .party-in .ensures) (c .before .before .before .party-in2 .ensures) (c .before .before .stand-in .ensures) (c .before .number-in .ensures) (c .number-in2 .ensures)
+returns-2 c =
+    let there = c .before .before .before .before .before .before .before .before .before .before in
+    search (message-read, there)
 
 pub message-at-spec : {M : Type 1} → statement M
 message-at-spec =

@@ -19,7 +19,9 @@ returns : tie.Need-returns
 returns c = search needs
 
 returns-2 : tie.Need-returns-2
-returns-2 c = sym (List·getD-eq-default (c .before .before .args .t1) 0 (omega (arith, c .before .before .good)))
+returns-2 c =
+    let start = c .before .before in
+    sym (List·getD-eq-default (start .args .t1) 0 (omega (arith, start .good)))
 
 pub number-in-spec : {M : Type 1} → statement M
 number-in-spec = tie.close (tie.spec cast-i mul-result array-read-result returns returns-2)

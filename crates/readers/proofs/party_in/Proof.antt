@@ -20,7 +20,9 @@ returns : tie.Need-returns
 returns c = search needs
 
 returns-2 : tie.Need-returns-2
-returns-2 c = sym (List·getD-eq-default (c .before .before .args .t1) (agentNo 0) (omega (arith, c .before .before .good)))
+returns-2 c =
+    let start = c .before .before in
+    sym (List·getD-eq-default (start .args .t1) (agentNo 0) (omega (arith, start .good)))
 
 pub party-in-spec : {M : Type 1} → statement M
 party-in-spec = tie.close (tie.spec cast-i mul-result array-copy-out-result returns returns-2)

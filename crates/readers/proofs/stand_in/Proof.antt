@@ -24,7 +24,9 @@ returns : tie.Need-returns
 returns c = search needs
 
 returns-2 : tie.Need-returns-2
-returns-2 c = c .standing .ensures ∙ sym (List·getD-eq-default (c .before .before .before .args .t1) (standing Queued) (omega (arith, c .before .before .before .good)))
+returns-2 c =
+    let start = c .before .before .before in
+    c .standing .ensures ∙ sym (List·getD-eq-default (start .args .t1) (standing Queued) (omega (arith, start .good)))
 
 pub stand-in-spec : {M : Type 1} → statement M
 stand-in-spec =

@@ -1,6 +1,7 @@
 -- `by_number` meets its contract.
+use Prim.Native.Nat.{_≤_}
 use native.Mathlib.Omega.{arith}
-use Rattle.rules.proofs.SentSearch.{takenFrom, count-le}
+use Rattle.rules.proofs.SentSearch.{count-fits}
 use Rattle.rules.proofs.SendingDone.{number-next, number-zero, number-gap, number-used}
 use borrow.Author.Needs.{needs}
 use Rattle.sending.proofs.by_number.Statement.{statement}
@@ -10,7 +11,9 @@ sent-by-requires : tie.Need-sent-by-requires
 sent-by-requires c κs = search needs
 
 add-if1 : tie.Need-add-if1
-add-if1 c = omega (arith, c .before .before .pre, c .sent-by .ensures, count-le (takenFrom (c .before .before .args .t .sender) (c .before .before .args .a)) (c .before .before .args .t .messages))
+add-if1 c =
+    let few : c .sent-by .result ≤ 512 = count-fits _ (c .sent-by .ensures) (c .before .before .pre) in
+    omega arith
 
 take-new-requires : tie.Need-take-new-requires
 take-new-requires c κs = search needs

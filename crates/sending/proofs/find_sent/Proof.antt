@@ -42,16 +42,20 @@ both-requires : tie.Need-both-requires Inv-loop μ-loop
 both-requires c κs = search needs
 
 returns : tie.Need-returns Inv-loop μ-loop
-returns c = last-hit (takenAs (c .before .before .before .before .before .before .before .args .t2) (c .before .before .before .before .before .before .before .args .t3) (c .before .before .before .before .before .before .before .args .a) (c .before .before .before .before .before .before .before .args .n)) (c .before .before .before .before .before .before .before .args .messages) (c .before .before .before .before .before .before .loop .i) (c .before .before .before .before .before .loop-test .taken) (c .before .before .before .before .before .before .loop .inv .1) (sym (c .before .both .ensures) ∙ c .if1 .taken)
+returns c =
+    let turn = c .before .before .before .before .before in
+    last-hit _ _ _ (turn .loop-test .taken) (turn .before .loop .inv .1) (sym (c .before .both .ensures) ∙ c .if1 .taken)
 
 loop-less : tie.Need-loop-less Inv-loop μ-loop
 loop-less c = omega arith
 
 loop-again : tie.Need-loop-again Inv-loop μ-loop
-loop-again c = (omega arith, last-miss (takenAs (c .before .before .before .before .before .before .before .args .t2) (c .before .before .before .before .before .before .before .args .t3) (c .before .before .before .before .before .before .before .args .a) (c .before .before .before .before .before .before .before .args .n)) (c .before .before .before .before .before .before .before .args .messages) (c .before .before .before .before .before .before .loop .i) (c .before .before .before .before .before .loop-test .taken) (c .before .before .before .before .before .before .loop .inv .1) (sym (c .before .both .ensures) ∙ c .if1 .left))
+loop-again c =
+    let turn = c .before .before .before .before .before in
+    (omega arith, last-miss _ _ _ (turn .loop-test .taken) (turn .before .loop .inv .1) (sym (c .before .both .ensures) ∙ c .if1 .left))
 
 returns-2 : tie.Need-returns-2 Inv-loop μ-loop
-returns-2 c = last-end (takenAs (c .before .before .args .t2) (c .before .before .args .t3) (c .before .before .args .a) (c .before .before .args .n)) (c .before .before .args .messages) (c .before .loop .i) (c .loop-test .left) (c .before .loop .inv .1)
+returns-2 c = search last-end
 
 pub find-sent-spec : {M : Type 1} → statement M
 find-sent-spec =

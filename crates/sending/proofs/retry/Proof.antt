@@ -1,7 +1,5 @@
 -- `retry` meets its contract.
-use mathlib.Core.Path.{_∙_, sym}
-use native.Mathlib.Omega.{arith}
-use Rattle.rules.proofs.SentSearch.{takenAs, last-below}
+use Rattle.rules.proofs.SentSearch.{last-fits}
 use Rattle.rules.proofs.SendingDone.{retry-missing, retry-astray, retry-changed, retry-repeats}
 use borrow.Author.Needs.{needs}
 use Rattle.sending.proofs.retry.Statement.{statement}
@@ -29,7 +27,7 @@ mul-to : tie.Need-mul-to
 mul-to c = search needs
 
 array-copy-out-to : tie.Need-array-copy-out-to
-array-copy-out-to c = omega (arith, c .before .before .before .before .before .before .before .before .pre, last-below (takenAs (c .before .before .before .before .before .before .before .before .args .t .sender) (c .before .before .before .before .before .before .before .before .args .t .number) (c .before .before .before .before .before .before .before .before .args .a) (c .before .before .before .before .before .before .before .before .args .n)) (c .before .before .before .before .before .before .before .before .args .t .messages) (c .before .before .before .m .given .0 .0) (sym (c .before .before .before .m .given .1) ∙ c .before .before .before .before .before .find-sent .ensures))
+array-copy-out-to c = search last-fits
 
 refused-requires-2 : tie.Need-refused-requires-2
 refused-requires-2 c κs = search needs
@@ -41,7 +39,7 @@ mul-if2 : tie.Need-mul-if2
 mul-if2 c = search needs
 
 array-read-if2 : tie.Need-array-read-if2
-array-read-if2 c = omega (arith, c .before .before .before .before .before .before .before .before .before .before .before .before .before .pre, last-below (takenAs (c .before .before .before .before .before .before .before .before .before .before .before .before .before .args .t .sender) (c .before .before .before .before .before .before .before .before .before .before .before .before .before .args .t .number) (c .before .before .before .before .before .before .before .before .before .before .before .before .before .args .a) (c .before .before .before .before .before .before .before .before .before .before .before .before .before .args .n)) (c .before .before .before .before .before .before .before .before .before .before .before .before .before .args .t .messages) (c .before .before .before .before .before .before .before .before .m .given .0 .0) (sym (c .before .before .before .before .before .before .before .before .m .given .1) ∙ c .before .before .before .before .before .before .before .before .before .before .find-sent .ensures))
+array-read-if2 c = search last-fits
 
 refused-requires-3 : tie.Need-refused-requires-3
 refused-requires-3 c κs = search needs

@@ -4,7 +4,7 @@ use mathlib.Core.Path.{_≡_, refl}
 use borrow.Author.Tests.{eq-eqb, ne-eqb}
 use native.Mathlib.Omega.{arith}
 use Rattle.records.specs.Places.{countBelow}
-use Rattle.rules.proofs.SentSearch.{takenFrom, count-one, count-none, count-end, count-le}
+use Rattle.rules.proofs.SentSearch.{takenFrom, count-one, count-none, count-end, count-fits}
 use borrow.Author.Needs.{needs}
 use Rattle.sending.proofs.sent_by.Statement.{statement}
 use Rattle.sending.proofs.sent_by.Tie as tie
@@ -32,22 +32,25 @@ add-i : tie.Need-add-i Inv-loop μ-loop
 add-i c = omega (arith, c .before .before .before .pre)
 
 add-count : tie.Need-add-count Inv-loop μ-loop
-add-count c = omega (arith, c .before .before .before .before .before .before .pre, count-le (takenFrom (c .before .before .before .before .before .before .args .t2) (c .before .before .before .before .before .before .args .a)) (c .before .before .before .before .before .loop .i))
+add-count c =
+    let turn = c .before .before .before .before .before in
+    let few : turn .loop .count ≤ 512 = count-fits _ (turn .loop .inv .1) (omega (arith, turn .before .pre)) in
+    omega arith
 
 loop-less : tie.Need-loop-less Inv-loop μ-loop
 loop-less c = omega arith
 
 loop-again : tie.Need-loop-again Inv-loop μ-loop
-loop-again c = (omega arith, count-one (takenFrom (c .before .before .before .before .before .before .args .t2) (c .before .before .before .before .before .before .args .a)) (c .before .before .before .before .before .loop .i) (c .before .before .before .before .before .loop .count) (c .before .before .before .before .before .loop .inv .1) (eq-eqb _ _ (c .if1 .taken)))
+loop-again c = (omega arith, search (count-one, eq-eqb))
 
 loop-less-2 : tie.Need-loop-less-2 Inv-loop μ-loop
 loop-less-2 c = omega arith
 
 loop-again-2 : tie.Need-loop-again-2 Inv-loop μ-loop
-loop-again-2 c = (omega arith, count-none (takenFrom (c .before .before .before .before .before .before .args .t2) (c .before .before .before .before .before .before .args .a)) (c .before .before .before .before .before .loop .i) (c .before .before .before .before .before .loop .count) (c .before .before .before .before .before .loop .inv .1) (ne-eqb _ _ (c .if1 .left)))
+loop-again-2 c = (omega arith, search (count-none, ne-eqb, c .if1 .left))
 
 returns : tie.Need-returns Inv-loop μ-loop
-returns c = count-end (takenFrom (c .before .before .args .t2) (c .before .before .args .a)) (c .before .before .args .messages) (c .before .loop .i) (c .before .loop .count) (c .before .loop .inv .0) (c .loop-test .left) (c .before .loop .inv .1)
+returns c = search count-end
 
 pub sent-by-spec : {M : Type 1} → statement M
 sent-by-spec =
