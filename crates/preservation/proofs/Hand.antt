@@ -20,6 +20,7 @@ use Rattle.rules.specs.Soundness.{Delivered, timesLogged}
 use Rattle.records.proofs.PlaceLaws.{count-alike, count-hit, count-miss}
 use Rattle.records.proofs.ReaderLaws.{delivered-is, is-delivered}
 use Rattle.preservation.proofs.Counting.{count-none, fewer}
+use Rattle.preservation.proofs.Shapes.{shaped-log}
 use Rattle.preservation.proofs.Places.{Seen, changed, kept, seen-entry}
 use Rattle.preservation.proofs.Locking.{never}
 use Rattle.preservation.proofs.OneAgent.{Good}
@@ -122,15 +123,7 @@ module _ (t : State) (g : Good t) (m : MailNo) (there : IsMessage t m) (s : Site
 
   pub hand-good : Good after
   hand-good = (
-    record {
-      agent = g .0 .agent;
-      sender = g .0 .sender;
-      number = g .0 .number;
-      addressee = g .0 .addressee;
-      value = g .0 .value;
-      status = status-shaped t m Handed (g .0) .status;
-      log = length-set (t .log) (t .handed) m ∙ g .0 .log;
-    },
+    shaped-log (withStatus t m Handed) (status-shaped t m Handed (g .0)) _ _ (length-set (t .log) (t .handed) m),
     mail-sound
         t
         (t .held)

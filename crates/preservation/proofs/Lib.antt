@@ -19,3 +19,4 @@ pub mod Send
 pub mod Keeps
 pub mod Opening
 pub mod Letters
+pub mod Shapes

@@ -18,6 +18,7 @@ use Rattle.records.specs.Locks.{holding}
 use Rattle.rules.specs.declared.State.{State}
 use Rattle.rules.specs.Holding.{Shaped, IsAgent, IsMessage, agentAt, siteOf, statusOf, messageAt, lockOf, withAgent, withLock}
 use Rattle.rules.specs.Soundness.{Sound, LockRight}
+use Rattle.preservation.proofs.Shapes.{shaped-agents, shaped-held}
 use Rattle.preservation.proofs.Places.{Seen, changed, kept, seen-agent}
 use Rattle.preservation.proofs.Families.{Kin, kin-self, kin-families}
 use Rattle.preservation.proofs.AgentSteps.{MovingIn, not-moving, moving-as, Alone, alone, agents-sound}
@@ -28,28 +29,10 @@ abbrev pub Good : State → Type 0
 Good t = Shaped t × Sound t
 
 pub agents-shaped : (t : State) (a : AgentNo) (y : Agent) → Shaped t → Shaped (withAgent t a y)
-agents-shaped t a y s =
-    record {
-      agent = length-set (t .agent) (a .0) y ∙ s .agent;
-      sender = s .sender;
-      number = s .number;
-      addressee = s .addressee;
-      value = s .value;
-      status = s .status;
-      log = s .log;
-    }
+agents-shaped t a y s = shaped-agents t s (t .agents) _ (length-set (t .agent) (a .0) y)
 
 pub lock-shaped : (t : State) (l : Lock) → Shaped t → Shaped (withLock t l)
-lock-shaped t l s =
-    record {
-      agent = s .agent;
-      sender = s .sender;
-      number = s .number;
-      addressee = s .addressee;
-      value = s .value;
-      status = s .status;
-      log = s .log;
-    }
+lock-shaped t l s = shaped-held t s (holding l)
 
 -- an agent that is there has a place in the list
 pub agent-place : (t : State) (a : AgentNo) → Good t → a .0 < t .agents → a .0 < length (t .agent)

@@ -18,21 +18,14 @@ use Rattle.records.specs.Messages.{emptyMessage, isUnderWay, standing}
 use Rattle.rules.specs.declared.State.{State}
 use Rattle.rules.specs.Holding.{Shaped, IsMessage, messageAt, statusOf, lockOf, withStatus, withLock}
 use Rattle.rules.specs.Soundness.{LockRight}
+use Rattle.preservation.proofs.Shapes.{shaped-messages}
 use Rattle.preservation.proofs.Places.{Seen, changed, kept, withStand, seen-status}
 use Rattle.preservation.proofs.Locking.{Wants, lock-same, held-right, lock-right, lock-left, lock-taken, lock-freed}
 use Rattle.preservation.proofs.OneAgent.{Good}
 
 pub status-shaped : (t : State) (m : MailNo) (x : Status) → Shaped t → Shaped (withStatus t m x)
 status-shaped t m x s =
-    record {
-      agent = s .agent;
-      sender = s .sender;
-      number = s .number;
-      addressee = s .addressee;
-      value = s .value;
-      status = length-set (t .status) (m .0) (standing x) ∙ s .status;
-      log = s .log;
-    }
+    shaped-messages t s (t .messages) _ _ _ _ _ refl refl refl refl (length-set (t .status) (m .0) (standing x))
 
 -- the statuses that the lock is held for
 abbrev pub UnderWayIn : Status → Type 0

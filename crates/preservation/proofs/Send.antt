@@ -20,6 +20,7 @@ use Rattle.rules.specs.Soundness.{UnderWay, Delivered, sentBefore}
 use Rattle.rules.specs.Steps.{sentBy, newMessage}
 use Rattle.records.proofs.PlaceLaws.{count-alike}
 use Rattle.records.proofs.ReaderLaws.{delivered-is, is-delivered}
+use Rattle.preservation.proofs.Shapes.{shaped-messages}
 use Rattle.preservation.proofs.Places.{Seen, changed, kept, seen-message}
 use Rattle.preservation.proofs.Families.{ChildOf}
 use Rattle.preservation.proofs.Locking.{never}
@@ -143,15 +144,15 @@ module _
 
     pub send-good : Good after
     send-good = (
-      record {
-        agent = g .0 .agent;
-        sender = length-set (t .sender) (t .messages) a ∙ g .0 .sender;
-        number = length-set (t .number) (t .messages) n ∙ g .0 .number;
-        addressee = length-set (t .addressee) (t .messages) b ∙ g .0 .addressee;
-        value = length-set (t .value) (t .messages) v ∙ g .0 .value;
-        status = length-set (t .status) (t .messages) (standing Queued) ∙ g .0 .status;
-        log = g .0 .log;
-      },
+      shaped-messages
+          t
+          (g .0)
+          _ _ _ _ _ _
+          (length-set (t .sender) (t .messages) a)
+          (length-set (t .number) (t .messages) n)
+          (length-set (t .addressee) (t .messages) b)
+          (length-set (t .value) (t .messages) v)
+          (length-set (t .status) (t .messages) (standing Queued)),
       mail-sound
           t
           (t .held)

@@ -4,6 +4,7 @@ use mathlib.Core.Path.{_≡_, refl, ap, sym, _∙_}
 use mathlib.Core.Logic.{_⊎_, inl, inr, _↔_}
 use native.Mathlib.Decide.{ℕ-discrete}
 use native.Mathlib.Omega.{arith}
+use lib.ListN.{length-set}
 use Rattle.records.specs.declared.AgentNo.{AgentNo}
 use Rattle.records.specs.declared.Agent.{Agent}
 use Rattle.records.specs.declared.Phase.the-variants.{Free, Spawning, Born}
@@ -18,6 +19,7 @@ use Rattle.preservation.proofs.Places.{SeenTwo, first, second, neither,
 use Rattle.preservation.proofs.Families.{ChildOf}
 use Rattle.preservation.proofs.AgentSteps.{MovingIn, not-moving, Alone, alone, alone-mapped, moving-as, moves-same, agents-sound}
 use Rattle.preservation.proofs.Locking.{never}
+use Rattle.preservation.proofs.Shapes.{shaped-agents}
 use Rattle.preservation.proofs.OneAgent.{Good, agent-place, agents-shaped}
 
 module _ (t : State) (g : Good t) (a : AgentNo) (there : IsAgent t a) (e : phaseOf t a ≡ Free) (some : t .agents < mostAgents) where
@@ -228,15 +230,11 @@ module _ (t : State) (g : Good t) (a : AgentNo) (there : IsAgent t a) (e : phase
 
   pub spawn-good : Good after
   spawn-good = (
-    record {
-      agent = agents-shaped (toPhase t a (Spawning new)) new (bornOf a (siteOf t a)) (agents-shaped t a _ (g .0)) .agent;
-      sender = g .0 .sender;
-      number = g .0 .number;
-      addressee = g .0 .addressee;
-      value = g .0 .value;
-      status = g .0 .status;
-      log = g .0 .log;
-    },
+    shaped-agents
+        (toPhase t a (Spawning new))
+        (agents-shaped t a _ (g .0))
+        _ _
+        (length-set (toPhase t a (Spawning new) .agent) (t .agents) (bornOf a (siteOf t a))),
     agents-sound
         t
         (suc (t .agents))

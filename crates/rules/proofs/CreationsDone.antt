@@ -15,7 +15,8 @@ use Rattle.records.specs.Locks.{isUnheld}
 use Rattle.rules.specs.Tests.{agentIn}
 use Rattle.rules.specs.declared.State.{State}
 use Rattle.rules.specs.declared.Reply.{Reply}
-use Rattle.rules.specs.Holding.{mostAgents, isAgent, agentAt, phaseOf, lockOf, nextAgent, withAgents}
+use Rattle.records.specs.Limits.{mostAgents}
+use Rattle.rules.specs.Holding.{isAgent, agentAt, phaseOf, lockOf, nextAgent, withAgents}
 use Rattle.rules.specs.Answers.{done, unless}
 use Rattle.rules.specs.Steps.{spawnRule, enrolRule, greetRule}
 

@@ -167,6 +167,26 @@ impl Table {
         answer_of(deliveries::close(state, m))
     }
 
+    // Takes a step by its method.
+    pub fn step(mut self, step: Step) -> Answer
+        ensures { λ r. ⌜ r ≡ stepTable self step ⌝ }
+    {
+        match step {
+            Step::Spawn(a) => self.spawn(a),
+            Step::Ask(a, u) => self.ask(a, u),
+            Step::Send(a, n, b, v) => self.send(a, n, b, v),
+            Step::Enrol(b) => self.enrol(b),
+            Step::Greet(b) => self.greet(b),
+            Step::Grant(a) => self.grant(a),
+            Step::Leap(a) => self.leap(a),
+            Step::Book(a) => self.book(a),
+            Step::Settle(a) => self.settle(a),
+            Step::Forward(m) => self.forward(m),
+            Step::Hand(m) => self.hand(m),
+            Step::Close(m) => self.close(m),
+        }
+    }
+
     // Reads the agent a.
     pub fn agent_at(self, a: AgentNo) -> AgentRead
         ensures { λ r. ⌜ r ≡ readAgent (self .state) a ⌝ }

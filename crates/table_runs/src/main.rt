@@ -11,7 +11,6 @@ use printing::put;
 use printing::put_number;
 use records::Code;
 use records::codes::code_number;
-use rules::Step;
 use scanning::finding::first_line;
 use scanning::finding::line_taken;
 use scanning::numerals::read_number;
@@ -33,24 +32,6 @@ fn told(r: Answer) -> Table {
 fn filled(t: Table) -> Table {
     put(b": filled");
     t
-}
-
-// Takes a step by its method.
-fn step_on(t: Table, step: Step) -> Answer {
-    match step {
-        Step::Spawn(a) => t.spawn(a),
-        Step::Ask(a, u) => t.ask(a, u),
-        Step::Send(a, n, b, v) => t.send(a, n, b, v),
-        Step::Enrol(b) => t.enrol(b),
-        Step::Greet(b) => t.greet(b),
-        Step::Grant(a) => t.grant(a),
-        Step::Leap(a) => t.leap(a),
-        Step::Book(a) => t.book(a),
-        Step::Settle(a) => t.settle(a),
-        Step::Forward(m) => t.forward(m),
-        Step::Hand(m) => t.hand(m),
-        Step::Close(m) => t.close(m),
-    }
 }
 
 // Reads the number that the whole line holds behind a word, if it begins with that word.
@@ -98,7 +79,7 @@ fn take_own(t: Table, line: &[u8]) -> Table {
 fn take_line(t: Table, line: &[u8]) -> Table {
     match read_line(line) {
         Line::Opening(sites) => told(Table::open(sites)),
-        Line::Take(step) => told(step_on(t, step)),
+        Line::Take(step) => told(t.step(step)),
         Line::Bad => take_own(t, line),
     }
 }

@@ -1,10 +1,10 @@
--- `script::running::put_end` meets its contract.
+-- `script::put_end` meets its contract.
 use Rattle.program.specs.Running.{runEnd}
 use Rattle.program.proofs.Runs.{came-same, came-put}
 use Rattle.program.proofs.Turns.{when-true, when-false}
 use borrow.Author.Needs.{needs}
-use Rattle.script.proofs.running.put_end.Statement.{statement}
-use Rattle.script.proofs.running.put_end.Tie as tie
+use Rattle.script.proofs.put_end.Statement.{statement}
+use Rattle.script.proofs.put_end.Tie as tie
 
 put-table-requires : tie.Need-put-table-requires
 put-table-requires c κs = search needs

@@ -1,11 +1,11 @@
--- `script::taking::take` meets its contract.
+-- `turns::take` meets its contract.
 use mathlib.Core.Path.{ap, _∙_}
 use borrow.Author.Tests.{not-true, not-false}
 use Rattle.program.specs.Program.{steppedBy}
 use Rattle.program.proofs.Turns.{no-step, not-open, steps}
 use borrow.Author.Needs.{needs}
-use Rattle.script.proofs.taking.take.Statement.{statement}
-use Rattle.script.proofs.taking.take.Tie as tie
+use Rattle.turns.proofs.take.Statement.{statement}
+use Rattle.turns.proofs.take.Tie as tie
 
 enum-known-line : tie.Need-enum-known-line
 enum-known-line c = search needs
@@ -22,11 +22,11 @@ turned-away-requires c κs = search needs
 returns-2 : tie.Need-returns-2
 returns-2 c = c .turned-away .ensures ∙ not-open (c .before .before .before .before .before .before .args .desk) (c .before .before .before .before .line .given .0 .0) (c .before .before .before .before .line .given .1) (not-true (c .before .before .before .before .before .before .args .desk .opened) (c .before .if1 .taken))
 
-step-on-requires : tie.Need-step-on-requires
-step-on-requires c κs = search needs
+step-requires : tie.Need-step-requires
+step-requires c κs = search needs
 
 returns-3 : tie.Need-returns-3
-returns-3 c = ap steppedBy (c .before .step-on .ensures) ∙ steps (c .before .before .before .before .before .before .before .before .args .desk) (c .before .before .before .before .before .before .line .given .0 .0) (c .before .before .before .before .before .before .line .given .1) (not-false (c .before .before .before .before .before .before .before .before .args .desk .opened) (c .before .before .before .if1 .left))
+returns-3 c = ap steppedBy (c .before .step .ensures) ∙ steps (c .before .before .before .before .before .before .before .before .args .desk) (c .before .before .before .before .before .before .line .given .0 .0) (c .before .before .before .before .before .before .line .given .1) (not-false (c .before .before .before .before .before .before .before .before .args .desk .opened) (c .before .before .before .if1 .left))
 
 pub take-spec : {M : Type 1} → statement M
 take-spec =
@@ -37,5 +37,5 @@ take-spec =
     returns
     turned-away-requires
     returns-2
-    step-on-requires
+    step-requires
     returns-3)

@@ -1,4 +1,4 @@
--- `script::running::put_answer` meets its contract.
+-- `script::put_answer` meets its contract.
 use Prim.Native.Nat.{ℕ, _≤_}
 use mathlib.Core.Path.{_≡_, ap, _∙_}
 use mathlib.Core.List.{List, [], _∷_}
@@ -10,8 +10,8 @@ use Rattle.text.specs.Text.{fields, row}
 use Rattle.text.proofs.Placing.{put-front}
 use Rattle.program.specs.Program.{answerLine}
 use borrow.Author.Needs.{needs}
-use Rattle.script.proofs.running.put_answer.Statement.{statement}
-use Rattle.script.proofs.running.put_answer.Tie as tie
+use Rattle.script.proofs.put_answer.Statement.{statement}
+use Rattle.script.proofs.put_answer.Tie as tie
 
 code-number-requires : tie.Need-code-number-requires
 code-number-requires c κs = search needs

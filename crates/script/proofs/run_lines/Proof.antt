@@ -1,4 +1,4 @@
--- `script::running::run_lines` meets its contract.
+-- `script::run_lines` meets its contract.
 use Prim.Native.Nat.{suc, _+_, _≤_}
 use mathlib.Core.Path.{_≡_, refl, sym, _∙_}
 use native.Mathlib.Omega.{arith}
@@ -9,8 +9,8 @@ use Rattle.program.specs.Running.{from, atFront, runLines}
 use Rattle.grammar.proofs.LineEnds.{taken-within, taken-some}
 use Rattle.program.proofs.Runs.{came-same, part-length, turn-on, run-ends}
 use borrow.Author.Needs.{needs}
-use Rattle.script.proofs.running.run_lines.Statement.{statement}
-use Rattle.script.proofs.running.run_lines.Tie as tie
+use Rattle.script.proofs.run_lines.Statement.{statement}
+use Rattle.script.proofs.run_lines.Tie as tie
 
 abbrev Inv-loop : tie.InvT-loop
 Inv-loop input output₀ rest₀ desk₀ k₀ at₀ output rest desk k at =

@@ -1,6 +1,6 @@
-// One line against what the script has come to.
+// One line of a script against what the script has come to.
 ghost use mathlib.Core.Path.{_≡_};
-ghost use Rattle.table.specs.Face.{openTable, stepTable};
+ghost use Rattle.table.specs.Face.{openTable};
 ghost use Rattle.program.specs.Program.{takeLine, turnedAway, openedBy};
 ghost use Rattle.program.specs.Taking.{takeOpening};
 use grammar::Line;
@@ -8,8 +8,6 @@ use program::Desk;
 use program::Turn;
 use records::Code;
 use records::codes::code_number;
-use rules::Step;
-use table::Answer;
 use table::Table;
 
 // A line that is refused before it comes to the table.
@@ -54,26 +52,6 @@ fn take_opening(desk: Desk, line: Line) -> Turn
     opening(sites)
 }
 
-// Each step by its method.
-fn step_on(table: Table, step: Step) -> Answer
-    ensures { λ r. ⌜ r ≡ stepTable table step ⌝ }
-{
-    match step {
-        Step::Spawn(a) => table.spawn(a),
-        Step::Ask(a, u) => table.ask(a, u),
-        Step::Send(a, n, b, v) => table.send(a, n, b, v),
-        Step::Enrol(b) => table.enrol(b),
-        Step::Greet(b) => table.greet(b),
-        Step::Grant(a) => table.grant(a),
-        Step::Leap(a) => table.leap(a),
-        Step::Book(a) => table.book(a),
-        Step::Settle(a) => table.settle(a),
-        Step::Forward(m) => table.forward(m),
-        Step::Hand(m) => table.hand(m),
-        Step::Close(m) => table.close(m),
-    }
-}
-
 // One line: a step goes on, and a line that is none is an opening or not in the grammar.
 pub fn take(desk: Desk, line: Line) -> Turn
     ensures { λ r. ⌜ r ≡ takeLine desk line ⌝ }
@@ -85,7 +63,7 @@ pub fn take(desk: Desk, line: Line) -> Turn
         return turned_away(desk, Code::NotOpen);
     }
     let before = desk.table;
-    let answer = step_on(before, step);
+    let answer = before.step(step);
     let after = answer.table;
     let code = answer.code;
     Turn {

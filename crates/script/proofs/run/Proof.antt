@@ -1,11 +1,11 @@
--- `script::running::run` meets its contract.
+-- `script::run` meets its contract.
 use borrow.Author.Needs.{needs}
 use borrow.Author.Tests.{le-leb, lt-leb}
 use Rattle.program.specs.Running.{runOf}
 use Rattle.program.proofs.Runs.{came-same, came-put}
 use Rattle.program.proofs.Turns.{when-true, when-false}
-use Rattle.script.proofs.running.run.Statement.{statement}
-use Rattle.script.proofs.running.run.Tie as tie
+use Rattle.script.proofs.run.Statement.{statement}
+use Rattle.script.proofs.run.Tie as tie
 
 slice-aggregate-put-text : tie.Need-slice-aggregate-put-text
 slice-aggregate-put-text c = search needs

@@ -1,9 +1,9 @@
--- `script::taking::take_opening` meets its contract.
+-- `turns::take_opening` meets its contract.
 use mathlib.Core.Path.{_∙_}
 use Rattle.program.proofs.Turns.{no-opening, opened-again, opens}
 use borrow.Author.Needs.{needs}
-use Rattle.script.proofs.taking.take_opening.Statement.{statement}
-use Rattle.script.proofs.taking.take_opening.Tie as tie
+use Rattle.turns.proofs.take_opening.Statement.{statement}
+use Rattle.turns.proofs.take_opening.Tie as tie
 
 enum-known-line : tie.Need-enum-known-line
 enum-known-line c = search needs

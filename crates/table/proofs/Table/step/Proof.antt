@@ -1,7 +1,7 @@
--- `script::taking::step_on` meets its contract.
+-- `Table::step` meets its contract.
 use borrow.Author.Needs.{needs}
-use Rattle.script.proofs.taking.step_on.Statement.{statement}
-use Rattle.script.proofs.taking.step_on.Tie as tie
+use Rattle.table.proofs.Table.step.Statement.{statement}
+use Rattle.table.proofs.Table.step.Tie as tie
 
 enum-known-step : tie.Need-enum-known-step
 enum-known-step c = search needs
@@ -111,8 +111,8 @@ returns-11 c = rw (c .before .before .step11 .given .1) (c .hand .ensures)
 returns-12 : tie.Need-returns-12
 returns-12 c = rw (c .before .before .step12 .given .1) (c .close .ensures)
 
-pub step-on-spec : {M : Type 1} → statement M
-step-on-spec =
+pub step-spec : {M : Type 1} → statement M
+step-spec =
     tie.close
     (tie.spec
     enum-known-step

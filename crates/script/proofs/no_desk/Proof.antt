@@ -1,7 +1,7 @@
--- `script::running::no_desk` meets its contract.
+-- `script::no_desk` meets its contract.
 use borrow.Author.Needs.{needs}
-use Rattle.script.proofs.running.no_desk.Statement.{statement}
-use Rattle.script.proofs.running.no_desk.Tie as tie
+use Rattle.script.proofs.no_desk.Statement.{statement}
+use Rattle.script.proofs.no_desk.Tie as tie
 
 none-requires : tie.Need-none-requires
 none-requires c κs = search needs

@@ -1,11 +1,11 @@
--- `script::taking::opening` meets its contract.
+-- `turns::opening` meets its contract.
 use mathlib.Core.Path.{ap, _∙_}
 use mathlib.Core.Bool.{Bool}
 use lib.Dec.{eqb}
 use Rattle.program.specs.Program.{openedBy}
 use borrow.Author.Needs.{needs}
-use Rattle.script.proofs.taking.opening.Statement.{statement}
-use Rattle.script.proofs.taking.opening.Tie as tie
+use Rattle.turns.proofs.opening.Statement.{statement}
+use Rattle.turns.proofs.opening.Tie as tie
 
 open-requires : tie.Need-open-requires
 open-requires c κs = search needs

@@ -1,9 +1,9 @@
--- `script::running::put_table` meets its contract.
+-- `script::put_table` meets its contract.
 use native.Mathlib.Omega.{arith}
 use Rattle.program.proofs.Runs.{table-no-room, table-within, table-put}
 use borrow.Author.Needs.{needs}
-use Rattle.script.proofs.running.put_table.Statement.{statement}
-use Rattle.script.proofs.running.put_table.Tie as tie
+use Rattle.script.proofs.put_table.Statement.{statement}
+use Rattle.script.proofs.put_table.Tie as tie
 
 returns : tie.Need-returns
 returns c =
