@@ -1,5 +1,4 @@
 -- `enrol` meets its contract.
-use Rattle.rules.specs.declared.Step.the-variants.{Enrol}
 use Rattle.rules.specs.Steps.{ruleOf}
 use Rattle.rules.proofs.Stepping.{step-by}
 use borrow.Author.Needs.{needs}

@@ -1,5 +1,4 @@
 -- `forward` meets its contract.
-use Rattle.rules.specs.declared.Step.the-variants.{Forward}
 use Rattle.rules.specs.Steps.{ruleOf}
 use Rattle.rules.proofs.Stepping.{step-by, test-fits}
 use borrow.Author.Needs.{needs}

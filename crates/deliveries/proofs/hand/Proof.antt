@@ -1,5 +1,4 @@
 -- `hand` meets its contract.
-use Rattle.rules.specs.declared.Step.the-variants.{Hand}
 use Rattle.rules.specs.Steps.{ruleOf}
 use Rattle.rules.proofs.Stepping.{step-by, test-fits}
 use borrow.Author.Needs.{needs}

@@ -1,5 +1,4 @@
 -- `ask` meets its contract.
-use Rattle.rules.specs.declared.Step.the-variants.{Ask}
 use Rattle.rules.specs.Steps.{ruleOf}
 use Rattle.rules.proofs.Stepping.{step-by}
 use borrow.Author.Needs.{needs}
