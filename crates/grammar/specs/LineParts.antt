@@ -1,19 +1,16 @@
 -- A line's parts, as they are read one after the other: what the grammar makes of them is the same.
-use Prim.Native.String.{String}
 use Prim.Native.Nat.{ℕ, suc}
 use mathlib.Core.Bool.{Bool, true, false, cond}
 use mathlib.Core.List.{List, [], _∷_}
-use lib.ListN.{length, drop}
+use lib.ListN.{length, drop, getD}
 use lib.Dec.{leb, eqb}
-use Rattle.records.specs.Numbers.{agentNo, siteNo, mailNo}
-use Rattle.rules.specs.declared.Step.the-variants.{Spawn, Ask, Send, Enrol, Greet, Grant, Leap, Book, Settle, Forward, Hand, Close}
 use Rattle.grammar.specs.declared.Line.{Line}
-use Rattle.grammar.specs.declared.Line.the-variants.{Opening, Take}
+use Rattle.grammar.specs.declared.Line.the-variants.{Bad}
 use Rattle.grammar.specs.declared.Numeral.{Numeral}
 use Rattle.grammar.specs.declared.Numeral.the-variants.{NoNumber, Number}
 use Rattle.grammar.specs.declared.Word.{Word}
 use Rattle.grammar.specs.declared.Word.the-variants.{Sites, Spawning, Enrolling, Greeting, Granting, Leaping, Booking, Settling, Forwarding, Handing, Closing}
-use Rattle.grammar.specs.Grammar.{After, other, after, Kind, kind, kinds, first, second, third, fourth, numeralOf}
+use Rattle.grammar.specs.Grammar.{After, other, after, Kind, kind, kinds, numeralOf}
 
 -- whether a text begins with a word
 abbrev pub isAfter : After → Bool
@@ -42,42 +39,37 @@ unfoldable pub lastNumber : List ℕ → Numeral
 unfolding numeralOf
 lastNumber bs = withEnd bs (numeralOf bs)
 
--- what the number of a line of one number says, by the line's word
-abbrev pub wordSays : Word → ℕ → Line
-wordSays Sites v = Opening v
-wordSays Spawning v = Take (Spawn (agentNo v))
-wordSays Enrolling v = Take (Enrol (agentNo v))
-wordSays Greeting v = Take (Greet (agentNo v))
-wordSays Granting v = Take (Grant (agentNo v))
-wordSays Leaping v = Take (Leap (agentNo v))
-wordSays Booking v = Take (Book (agentNo v))
-wordSays Settling v = Take (Settle (agentNo v))
-wordSays Forwarding v = Take (Forward (mailNo v))
-wordSays Handing v = Take (Hand (mailNo v))
-wordSays Closing v = Take (Close (mailNo v))
-
-abbrev pub wordText : Word → String
-wordText Sites = "sites="
-wordText Spawning = "spawn="
-wordText Enrolling = "enrol="
-wordText Greeting = "greet="
-wordText Granting = "grant="
-wordText Leaping = "leap="
-wordText Booking = "book="
-wordText Settling = "settle="
-wordText Forwarding = "forward="
-wordText Handing = "hand="
-wordText Closing = "close="
-
-abbrev pub wordKind : Word → Kind
-wordKind w = kind (wordText w) 1 (λ v. wordSays w (first v))
+-- the kind of line at a place of the list; past its end there is none, and what is said is not in the grammar
+abbrev pub kindAt : ℕ → Kind
+kindAt i = getD kinds i (kind "" 0 (λ v. Bad))
 
 -- the kinds of line of two and of four numbers
 abbrev pub askKind : Kind
-askKind = kind "ask=" 2 (λ v. Take (Ask (agentNo (first v)) (siteNo (second v))))
+askKind = kindAt 2
 
 abbrev pub sendKind : Kind
-sendKind = kind "send=" 4 (λ v. Take (Send (agentNo (first v)) (second v) (agentNo (third v)) (fourth v)))
+sendKind = kindAt 3
+
+-- the kinds of line of one number, each by its word's place in the list
+abbrev pub wordPlace : Word → ℕ
+wordPlace Sites = 0
+wordPlace Spawning = 1
+wordPlace Enrolling = 4
+wordPlace Greeting = 5
+wordPlace Granting = 6
+wordPlace Leaping = 7
+wordPlace Booking = 8
+wordPlace Settling = 9
+wordPlace Forwarding = 10
+wordPlace Handing = 11
+wordPlace Closing = 12
+
+abbrev pub wordKind : Word → Kind
+wordKind w = kindAt (wordPlace w)
+
+-- what the number of such a line says
+abbrev pub wordSays : Word → ℕ → Line
+wordSays w v = wordKind w .says (v ∷ [])
 
 -- the kinds of line that the network brings: about agents, and about messages
 abbrev pub agentKinds : List Kind

@@ -103,7 +103,7 @@ module _ (sender : List AgentNo) (number : List ℕ) (addressee : List AgentNo) 
           left-on some =
               let one : left ≡ suc (left - 1) = omega arith in
               let after = entries sender number addressee value a (drop (i + 1) (take end log)) in
-              so ∙ rw (rest more, its) (ap (itemAt (entry sender number value (entryIn log i) ∷ after)) one)
+              so ∙ rw (rest more, its) (ap (itemAt (entry sender number addressee value (entryIn log i) ∷ after)) one)
 
           pub left-found :
               {x : AgentNo} {n v : ℕ}

@@ -3,7 +3,7 @@ use Prim.Native.Nat.{ℕ, suc, _<_}
 use mathlib.Core.Path.{_≡_}
 use mathlib.Core.Bool.{Bool, cond}
 use mathlib.Core.List.{List, [], _∷_}
-use lib.ListN.{length, getD, set, take, replicate}
+use lib.ListN.{length, set, take, replicate}
 use lib.Dec.{ltb}
 use Rattle.records.specs.declared.AgentNo.{AgentNo}
 use Rattle.records.specs.declared.SiteNo.{SiteNo}
@@ -24,7 +24,7 @@ use Rattle.records.specs.Numbers.{agentNo, mailNo, sameAgent}
 use Rattle.records.specs.Agents.{emptyAgent}
 use Rattle.records.specs.Messages.{standing, emptyEntry, itemOf}
 use Rattle.records.specs.Locks.{holding}
-use Rattle.rules.specs.Tests.{agentIn, partyIn, statusIn, entryIn}
+use Rattle.rules.specs.Tests.{agentIn, messageIn, entryIn}
 use Rattle.rules.specs.declared.State.{State}
 
 -- what every table of the program has, and a list of antt need not: arrays of these lengths
@@ -71,14 +71,7 @@ mapOf t a = agentAt t a .map
 
 -- each message: sender, sender's number, addressee, value, status
 abbrev pub messageAt : State → MailNo → Message
-messageAt t m =
-    record {
-      sender = partyIn (t .sender) m;
-      number = getD (t .number) (m .0) 0;
-      addressee = partyIn (t .addressee) m;
-      value = getD (t .value) (m .0) 0;
-      status = statusIn (t .status) m;
-    }
+messageAt t m = messageIn (t .sender) (t .number) (t .addressee) (t .value) (t .status) m
 
 abbrev pub statusOf : State → MailNo → Status
 statusOf t m = messageAt t m .status
@@ -121,7 +114,8 @@ noState =
       log = replicate mostMessages emptyEntry;
     }
 
--- What a step changes it makes anew in one of four ways, and whatever that way does not name is as it was: the agents,
+-- What a step changes it makes anew in one of four ways, and whatever that way does not name is as it was.
+-- The same table with other agents, and so many of them.
 abbrev pub withAgents : State → ℕ → List Agent → State
 withAgents t count agent =
     record {
@@ -139,7 +133,7 @@ withAgents t count agent =
       log = t .log;
     }
 
--- the lock,
+-- the same table with another lock
 abbrev pub withHeld : State → Held → State
 withHeld t held =
     record {
@@ -157,7 +151,7 @@ withHeld t held =
       log = t .log;
     }
 
--- the messages,
+-- the same table with other messages, and so many of them
 abbrev pub withMessages : State → ℕ → List AgentNo → List ℕ → List AgentNo → List ℕ → List Stand → State
 withMessages t count sender number addressee value status =
     record {
@@ -175,7 +169,7 @@ withMessages t count sender number addressee value status =
       log = t .log;
     }
 
--- the log
+-- the same table with another log of this length
 abbrev pub withLog : State → ℕ → List MailNo → State
 withLog t count log =
     record {

@@ -2,14 +2,14 @@
 use Prim.Native.Nat.{ℕ, zero, suc}
 use mathlib.Core.Bool.{Bool, true, false, cond}
 use mathlib.Core.List.{List, [], _∷_}
-use lib.ListN.{getD}
 use Rattle.records.specs.declared.AgentNo.{AgentNo}
 use Rattle.records.specs.declared.MailNo.{MailNo}
 use Rattle.records.specs.declared.Agent.{Agent}
 use Rattle.records.specs.declared.Message.{Message}
 use Rattle.records.specs.declared.Item.{Item}
 use Rattle.records.specs.Numbers.{sameAgent}
-use Rattle.rules.specs.Tests.{partyIn}
+use Rattle.records.specs.Messages.{itemOf}
+use Rattle.rules.specs.Tests.{partyIn, messageIn}
 use Rattle.rules.specs.declared.State.{State}
 use Rattle.rules.specs.declared.AgentRead.{AgentRead}
 use Rattle.rules.specs.declared.AgentRead.the-variants as agents
@@ -44,12 +44,13 @@ unfoldable pub readInbox : State → AgentNo → ℕ → ItemRead
 unfolding inboxOf itemAt
 readInbox t a i = itemAt (inboxOf t a) i
 
--- the same from the arrays: the entries for an agent among some messages
-abbrev pub entry : List AgentNo → List ℕ → List ℕ → MailNo → Item
-entry sender number value m =
-    record { sender = partyIn sender m; number = getD number (m .0) 0; value = getD value (m .0) 0 }
+-- the same from the arrays: the entries for an agent among some messages, whatever their statuses are
+abbrev pub entry : List AgentNo → List ℕ → List AgentNo → List ℕ → MailNo → Item
+entry sender number addressee value m = itemOf (messageIn sender number addressee value [] m)
 
 unfoldable pub entries : List AgentNo → List ℕ → List AgentNo → List ℕ → AgentNo → List MailNo → List Item
 entries sender number addressee value a [] = []
 entries sender number addressee value a (m ∷ ms) =
-    cond (sameAgent (partyIn addressee m) a) (entry sender number value m ∷ entries sender number addressee value a ms) (entries sender number addressee value a ms)
+    cond (sameAgent (partyIn addressee m) a)
+    (entry sender number addressee value m ∷ entries sender number addressee value a ms)
+    (entries sender number addressee value a ms)

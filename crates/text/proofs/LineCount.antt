@@ -10,14 +10,14 @@ use Rattle.records.specs.declared.Agent.{Agent}
 use Rattle.records.specs.declared.AgentNo.{AgentNo}
 use Rattle.records.specs.declared.MailNo.{MailNo}
 use Rattle.records.specs.declared.Stand.{Stand}
-use Rattle.records.specs.Numbers.{agentNo}
+use Rattle.records.specs.Numbers.{agentNo, mailNo}
 use Rattle.records.specs.Places.{allOf}
-use Rattle.rules.specs.Tests.{agentIn, entryIn}
+use Rattle.rules.specs.Tests.{agentIn, messageIn, entryIn}
 use Rattle.rules.specs.declared.State.{State}
 use Rattle.rules.specs.Holding.{lockOf}
 use Rattle.text.specs.Decimal.{decimal, bytes}
 use Rattle.text.specs.Text.{fields, line, row, rowsBelow, lockText, agentText, messageText, written}
-use Rattle.text.specs.Rows.{lockLine, countLines, agentRow, messageIn, messageRow, logRow}
+use Rattle.text.specs.Rows.{lockLine, countLines, agentRow, messageRow, logRow}
 use Rattle.records.proofs.FlagLaws.{and-left, and-right}
 use Rattle.text.proofs.RowParts.{table-parts}
 use Rattle.text.proofs.Plain.{isPlain, Plain, AllPlain, decimal-plain, lock-plain, agentFields, messageFields, agent-plain, message-plain}
@@ -111,7 +111,7 @@ message-row-ends : (sender : List AgentNo) (number : List ℕ) (addressee : List
     → lineEnds (messageRow sender number addressee value status i) ≡ 1
 unfolding allOf messageText
 message-row-ends sender number addressee value status i =
-    let x = messageIn sender number addressee value status i in
+    let x = messageIn sender number addressee value status (mailNo i) in
     row-ends (bytes "message") i (fields (messageFields x)) refl (fields-ends (messageFields x) (message-plain x))
 
 log-row-ends : (log : List MailNo) (i : ℕ) → lineEnds (logRow log i) ≡ 1

@@ -1,18 +1,16 @@
 -- The parts of the written table that have a writer of their own: of a line, one row of each kind, and the lines before the rows.
 use Prim.Native.Nat.{ℕ}
 use mathlib.Core.List.{List, [], _∷_, _++_}
-use lib.ListN.{getD}
 use Rattle.records.specs.declared.AgentNo.{AgentNo}
 use Rattle.records.specs.declared.MailNo.{MailNo}
 use Rattle.records.specs.declared.Agent.{Agent}
 use Rattle.records.specs.declared.Phase.{Phase}
 use Rattle.records.specs.declared.Mapped.{Mapped}
-use Rattle.records.specs.declared.Message.{Message}
 use Rattle.records.specs.declared.Status.{Status}
 use Rattle.records.specs.declared.Stand.{Stand}
 use Rattle.records.specs.declared.Lock.{Lock}
 use Rattle.records.specs.Numbers.{agentNo, mailNo}
-use Rattle.rules.specs.Tests.{agentIn, partyIn, statusIn, entryIn}
+use Rattle.rules.specs.Tests.{agentIn, messageIn, entryIn}
 use Rattle.text.specs.Decimal.{decimal, bytes}
 use Rattle.text.specs.Text.{line, row, lockText, phaseWord, phaseNumber, mapText, statusWord, statusSite, agentText, messageText}
 
@@ -44,20 +42,9 @@ countLines sites agents messages handed =
 abbrev pub agentRow : List Agent → ℕ → List ℕ
 agentRow agent i = row (bytes "agent") i (agentText (agentIn agent (agentNo i)))
 
--- what stands at a place of the messages' five lists
-abbrev pub messageIn : List AgentNo → List ℕ → List AgentNo → List ℕ → List Stand → ℕ → Message
-messageIn sender number addressee value status i =
-    record {
-      sender = partyIn sender (mailNo i);
-      number = getD number i 0;
-      addressee = partyIn addressee (mailNo i);
-      value = getD value i 0;
-      status = statusIn status (mailNo i);
-    }
-
 abbrev pub messageRow : List AgentNo → List ℕ → List AgentNo → List ℕ → List Stand → ℕ → List ℕ
 messageRow sender number addressee value status i =
-    row (bytes "message") i (messageText (messageIn sender number addressee value status i))
+    row (bytes "message") i (messageText (messageIn sender number addressee value status (mailNo i)))
 
 abbrev pub logRow : List MailNo → ℕ → List ℕ
 logRow log i = row (bytes "log") i (decimal (entryIn log i .0))
