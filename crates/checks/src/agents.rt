@@ -101,6 +101,7 @@ fn moves_locked(lock: Lock, a: AgentNo, one: Agent) -> bool
     )
 }
 
+// Tells whether agent a, whose record is one, passes all that is asked of it; other is the record that its phase names.
 pub fn agent_fine(sites: u32, agents: u32, lock: Lock, a: AgentNo, one: Agent, other: Agent) -> bool
     ensures { λ r. ⌜ r ≡ (agentSites sites one && (family agents a one other && (mapRight one && Bool·beq (heldForMove lock a) (isMoving (one .phase))))) ⌝ }
 {
@@ -111,6 +112,7 @@ pub fn agent_fine(sites: u32, agents: u32, lock: Lock, a: AgentNo, one: Agent, o
     both(there, both(related, both(mapped, locked)))
 }
 
+// Tells whether one is the empty filling.
 pub fn is_empty_agent(one: Agent) -> bool
     ensures { λ r. ⌜ r ≡ isEmptyAgent one ⌝ }
 {

@@ -12,6 +12,7 @@ use records::limits::MOST_AGENTS;
 use records::limits::MOST_MESSAGES;
 use records::limits::MOST_SITES;
 
+// Tells whether the four counts are in their ranges.
 pub fn counts_fine(sites: u32, agents: u32, messages: u32, handed: u32) -> bool
     ensures { λ r. ⌜ r ≡ countsFine sites agents messages handed ⌝ }
 {

@@ -130,6 +130,7 @@ fn hand_rule(mut t: State, sound: bool, m: MailNo) -> Reply
     done(t, 0)
 }
 
+// With the message closed the lock is free for the next.
 fn close_rule(mut t: State, sound: bool, m: MailNo) -> Reply
     requires { ⌜ FitIfSound sound t ⌝ }
     ensures { λ r. ⌜ r ≡ unless sound BadState t (closeRule t m) ⌝ }

@@ -1,4 +1,4 @@
--- The first line of a text, and where the next one begins.
+-- The first line of a text, and where the next one begins. Assumes nothing.
 use Prim.Native.Nat.{ℕ, zero, suc}
 use mathlib.Core.Bool.{cond}
 use mathlib.Core.List.{List, [], _∷_}

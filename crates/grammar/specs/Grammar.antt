@@ -1,4 +1,4 @@
--- A script line: a word, `=`, and numbers with commas between them.
+-- A script line: a word, `=`, and numbers with commas between them. Assumes nothing.
 use Prim.Native.String.{String}
 use Prim.Native.Nat.{ℕ, zero, suc, _+_, _*_, _-_}
 use mathlib.Core.Bool.{Bool, cond, _&&_}

@@ -1,4 +1,4 @@
--- A line's parts, as they are read one after the other: what the grammar makes of them is the same.
+-- A line's parts, as they are read one after the other: what the grammar makes of them is the same. Assumes nothing.
 use Prim.Native.Nat.{ℕ, suc}
 use mathlib.Core.Bool.{Bool, true, false, cond}
 use mathlib.Core.List.{List, [], _∷_}

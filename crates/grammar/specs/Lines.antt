@@ -1,4 +1,4 @@
--- The lines of a text, each without its byte 10.
+-- The lines of a text, each without its byte 10. Assumes nothing.
 use Prim.Native.Nat.{ℕ}
 use mathlib.Core.Bool.{cond}
 use mathlib.Core.List.{List, [], _∷_}

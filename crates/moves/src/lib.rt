@@ -178,6 +178,7 @@ fn book_rule(mut t: State, sound: bool, a: AgentNo) -> Reply
     done(t, 0)
 }
 
+// Only the phase changes: map and lock were set right at book.
 fn settle_rule(mut t: State, sound: bool, a: AgentNo) -> Reply
     ensures { λ r. ⌜ r ≡ unless sound BadState t (settleRule t a) ⌝ }
 {

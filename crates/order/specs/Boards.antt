@@ -1,4 +1,4 @@
--- The plain board: sites and inboxes. An operation is done on it whole. It knows nothing of phases, maps or the lock.
+-- The plain board: sites and inboxes. An operation is done on it whole. It knows nothing of phases, maps or the lock. Assumes nothing.
 use Prim.Native.Nat.{ℕ, suc, _<_}
 use mathlib.Core.Path.{_≡_}
 use mathlib.Core.Bool.{cond}

@@ -1,4 +1,4 @@
--- What is shown of a sequence of steps ss, with any numbers and refused ones among them, that runs from a table t.
+-- What is shown of a sequence of steps ss, with any numbers and refused ones among them, that runs from a table t. Assumes nothing.
 use mathlib.Core.Path.{_≡_}
 use mathlib.Core.List.{List}
 use Rattle.rules.specs.declared.State.{State}

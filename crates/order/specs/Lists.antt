@@ -1,4 +1,4 @@
--- Words for a list: what stands in it, that nothing stands in it twice, and what stands before what.
+-- Words for a list: what stands in it, that nothing stands in it twice, and what stands before what. Assumes nothing.
 use mathlib.Core.Path.{_≡_}
 use mathlib.Core.Logic.{_⊎_}
 use mathlib.Core.List.{List, [], _∷_}

@@ -1,4 +1,5 @@
 -- A sequence of steps, and what each of them is to a creation, a move or a message. Places in the sequence are counted from 0.
+-- Assumes nothing.
 use Prim.Native.Nat.{ℕ, _+_}
 use mathlib.Core.Path.{_≡_}
 use mathlib.Core.Bool.{Bool, false, cond, _||_}

@@ -1,5 +1,5 @@
 -- The operations of a sequence that runs from a table t and leaves the marks ms: how they are told apart, and at which places each
--- begins, has its effect and is over. Those that t finds under way began before the first place.
+-- begins, has its effect and is over. Those that t finds under way began before the first place. Assumes nothing.
 use Prim.Native.Nat.{ℕ, suc}
 use mathlib.Core.Path.{_≡_}
 use mathlib.Core.Logic.{_⊎_}

@@ -1,4 +1,4 @@
--- One order of the operations of a sequence.
+-- One order of the operations of a sequence. Assumes nothing.
 use Prim.Native.Nat.{ℕ, _<_}
 use mathlib.Core.Path.{_≡_}
 use mathlib.Core.Logic.{_↔_}

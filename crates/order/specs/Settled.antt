@@ -1,4 +1,4 @@
--- What becomes of every message taken, and how far the map is right, after a sequence of steps.
+-- What becomes of every message taken, and how far the map is right, after a sequence of steps. Assumes nothing.
 use Prim.Native.Nat.{ℕ, _+_}
 use mathlib.Core.Path.{_≡_}
 use mathlib.Core.Bool.{cond, _&&_}

@@ -1,4 +1,4 @@
--- How an output ends, and the opening and the steps that a script comes to the table with.
+-- How an output ends, and the opening and the steps that a script comes to the table with. Assumes nothing.
 use Prim.Native.Nat.{ℕ}
 use mathlib.Core.Path.{_≡_}
 use mathlib.Core.List.{List, [], _∷_, _++_}

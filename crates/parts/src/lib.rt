@@ -161,6 +161,7 @@ pub fn agent_in(agent: [Agent; AGENT_ROOM], a: AgentNo) -> Agent
     }
 }
 
+// Stores one as the record of a, or nothing where a is past the array.
 pub fn agent_put(mut agent: [Agent; AGENT_ROOM], a: AgentNo, one: Agent) -> [Agent; AGENT_ROOM]
     ensures { λ r. ⌜ r ≡ set agent (a .0) one ⌝ }
 {

@@ -1,4 +1,4 @@
--- The script program: from the bytes on standard input to the bytes on standard output.
+-- The script program: from the bytes on standard input to the bytes on standard output. Assumes nothing.
 use Prim.Native.Nat.{ℕ, suc}
 use mathlib.Core.Bool.{true, false, cond}
 use mathlib.Core.List.{List, [], _∷_, _++_}

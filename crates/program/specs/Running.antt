@@ -1,4 +1,4 @@
--- A run of a script into a lent buffer.
+-- A run of a script into a lent buffer. Assumes nothing.
 use Prim.Native.Nat.{ℕ, suc, _+_}
 use mathlib.Core.Path.{_≡_}
 use mathlib.Core.Bool.{cond}

@@ -1,4 +1,4 @@
--- A line that is no step.
+-- A line that is no step. Assumes nothing.
 use mathlib.Core.Bool.{cond}
 use Rattle.records.specs.declared.Code.the-variants.{BadLine, AlreadyOpen}
 use Rattle.table.specs.Face.{openTable}

@@ -22,6 +22,7 @@ use rules::ItemRead;
 use rules::MessageRead;
 use rules::State;
 
+// Reads the sender or the addressee of m.
 fn party_in(party: [AgentNo; MESSAGE_ROOM], m: MailNo) -> AgentNo
     ensures { λ r. ⌜ r ≡ partyIn party m ⌝ }
 {
@@ -33,6 +34,7 @@ fn party_in(party: [AgentNo; MESSAGE_ROOM], m: MailNo) -> AgentNo
     }
 }
 
+// Reads the number or the value of m.
 fn number_in(number: [u32; MESSAGE_ROOM], m: MailNo) -> u32
     ensures { λ r. ⌜ r ≡ getD number (m .0) 0 ⌝ }
 {
@@ -40,6 +42,7 @@ fn number_in(number: [u32; MESSAGE_ROOM], m: MailNo) -> u32
     if i < MESSAGE_ROOM { number[i] } else { 0 }
 }
 
+// Reads the status of m.
 fn stand_in(status: [Stand; MESSAGE_ROOM], m: MailNo) -> Stand
     ensures { λ r. ⌜ r ≡ getD status (m .0) (standing Queued) ⌝ }
 {
@@ -96,6 +99,7 @@ fn entry_at(
     ItemRead::NoSuch
 }
 
+// Reads agent a of the table t.
 pub fn agent_at(t: State, a: AgentNo) -> AgentRead
     ensures { λ r. ⌜ r ≡ readAgent t a ⌝ }
 {
@@ -108,6 +112,7 @@ pub fn agent_at(t: State, a: AgentNo) -> AgentRead
     AgentRead::There(one)
 }
 
+// Reads message m of the table t.
 pub fn message_at(t: State, m: MailNo) -> MessageRead
     ensures { λ r. ⌜ r ≡ readMessage t m ⌝ }
 {

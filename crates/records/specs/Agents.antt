@@ -1,4 +1,4 @@
--- What the rules ask of an agent's record, and the one place for each kind of change to it.
+-- What the rules ask of an agent's record, and the one place for each kind of change to it. Assumes nothing.
 use Prim.Native.Nat.{ℕ}
 use mathlib.Core.Bool.{Bool, true, false, not, _&&_, _||_}
 use lib.Dec.{eqb}

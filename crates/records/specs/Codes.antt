@@ -1,4 +1,4 @@
--- The number of each code.
+-- The number of each code. Assumes nothing.
 use Prim.Native.Nat.{ℕ, _≤_}
 use Rattle.records.specs.declared.Code.{Code}
 use Rattle.records.specs.declared.Code.the-variants.{Done, Repeat, NoSite, NoAgent, NoMessage, Busy, NotUp, OutOfTurn, LockHeld, NotEnrolled, AgentsFull, MessagesFull, Changed, Gap, BadCount, NoRoom, BadLine, NotOpen, AlreadyOpen, BadState}

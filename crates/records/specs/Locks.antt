@@ -1,4 +1,4 @@
--- What the rules ask of the lock.
+-- What the rules ask of the lock. Assumes nothing.
 use mathlib.Core.Bool.{Bool, true, false}
 use Rattle.records.specs.declared.AgentNo.{AgentNo}
 use Rattle.records.specs.declared.MailNo.{MailNo}

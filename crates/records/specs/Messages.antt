@@ -1,4 +1,4 @@
--- What the rules ask of a message's record.
+-- What the rules ask of a message's record. Assumes nothing.
 use Prim.Native.Nat.{ℕ}
 use mathlib.Core.Bool.{Bool, _||_}
 use lib.Dec.{eqb}

@@ -1,4 +1,4 @@
--- Numbers of one kind are compared with each other, and with no other kind.
+-- Numbers of one kind are compared with each other, and with no other kind. Assumes nothing.
 use Prim.Native.Nat.{ℕ}
 use mathlib.Core.Bool.{Bool}
 use lib.Dec.{eqb}

@@ -1,4 +1,4 @@
--- Questions about every element of a list, and about every place below a number.
+-- Questions about every element of a list, and about every place below a number. Assumes nothing.
 use Prim.Native.Nat.{ℕ, zero, suc}
 use mathlib.Core.Bool.{Bool, true, cond, not, _&&_, _||_}
 use mathlib.Core.List.{List, [], _∷_}

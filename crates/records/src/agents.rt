@@ -24,6 +24,7 @@ pub const LANDED: u32 = 6;
 
 pub const BOOKED: u32 = 7;
 
+// Gives the number of the kind of p.
 pub fn phase_kind(p: Phase) -> u32
     ensures { λ r. ⌜ r ≡ phaseKind p ⌝ }
 {
@@ -71,6 +72,7 @@ pub fn target_of(p: Phase) -> SiteNo
     }
 }
 
+// Tells whether m names a site.
 pub fn is_mapped(m: Mapped) -> bool
     ensures { λ r. ⌜ r ≡ isMapped m ⌝ }
 {
@@ -80,6 +82,7 @@ pub fn is_mapped(m: Mapped) -> bool
     }
 }
 
+// Gives the site that m names, and site 0 where it names none.
 pub fn map_site(m: Mapped) -> SiteNo
     ensures { λ r. ⌜ r ≡ mapSite m ⌝ }
 {
@@ -89,6 +92,7 @@ pub fn map_site(m: Mapped) -> SiteNo
     }
 }
 
+// Makes the empty filling of an agent.
 pub fn empty_agent() -> Agent
     ensures { λ r. ⌜ r ≡ emptyAgent ⌝ }
 {
@@ -110,6 +114,7 @@ pub fn born_of(parent: AgentNo, site: SiteNo) -> Agent
     }
 }
 
+// Makes one anew with another phase.
 pub fn with_phase(one: Agent, phase: Phase) -> Agent
     ensures { λ r. ⌜ r ≡ withPhase one phase ⌝ }
 {
@@ -122,6 +127,7 @@ pub fn with_phase(one: Agent, phase: Phase) -> Agent
     }
 }
 
+// Makes one anew at another site.
 pub fn moved_to(one: Agent, site: SiteNo) -> Agent
     ensures { λ r. ⌜ r ≡ movedTo one site ⌝ }
 {

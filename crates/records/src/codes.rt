@@ -3,6 +3,7 @@ ghost use mathlib.Core.Path.{_≡_};
 ghost use Rattle.records.specs.Codes.{codeNumber};
 use crate::Code;
 
+// Gives the number that the rules have for the code c.
 pub fn code_number(c: Code) -> u32
     ensures { λ r. ⌜ r ≡ codeNumber c ⌝ }
 {

@@ -6,12 +6,14 @@ use crate::Held;
 use crate::Lock;
 use crate::MailNo;
 
+// Makes the lock's struct from its state l.
 pub fn holding(l: Lock) -> Held
     ensures { λ r. ⌜ r ≡ holding l ⌝ }
 {
     Held { lock: l }
 }
 
+// Tells whether the lock is free.
 pub fn is_unheld(l: Lock) -> bool
     ensures { λ r. ⌜ r ≡ isUnheld l ⌝ }
 {
@@ -22,6 +24,7 @@ pub fn is_unheld(l: Lock) -> bool
     }
 }
 
+// Tells whether the lock is held for the move of a.
 pub fn held_for_move(l: Lock, a: AgentNo) -> bool
     ensures { λ r. ⌜ r ≡ heldForMove l a ⌝ }
 {
@@ -32,6 +35,7 @@ pub fn held_for_move(l: Lock, a: AgentNo) -> bool
     }
 }
 
+// Tells whether the lock is held for the message m.
 pub fn held_for_mail(l: Lock, m: MailNo) -> bool
     ensures { λ r. ⌜ r ≡ heldForMail l m ⌝ }
 {

@@ -16,12 +16,14 @@ pub const CLOSED: u32 = 3;
 
 pub const LOST: u32 = 4;
 
+// Makes the status's struct from the status s.
 pub fn standing(s: Status) -> Stand
     ensures { λ r. ⌜ r ≡ standing s ⌝ }
 {
     Stand { status: s }
 }
 
+// Gives the number of the kind of s.
 pub fn status_kind(s: Status) -> u32
     ensures { λ r. ⌜ r ≡ statusKind s ⌝ }
 {

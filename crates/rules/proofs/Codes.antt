@@ -22,7 +22,14 @@ use Rattle.rules.specs.Soundness.{Sound}
 use Rattle.rules.specs.Steps.{addresseeOf, stepOf}
 use Rattle.rules.proofs.CodeRows.{says, _when_else_, check, rows, unsound, absent, not-free, not-born, not-enrolled, not-asking, not-granted, not-landed, not-booked, not-queued, not-out, not-handed, lock-held, not-mapped}
 
-pub spawn-codes : (t : State) (a : AgentNo) → (BadState when (Sound t → ⊥) else NoAgent when (t .agents ≤ a .0) else Busy when (phaseOf t a ≡ Free → ⊥) else AgentsFull when (mostAgents ≤ t .agents) else says Done) (stepOf t (Spawn a))
+pub spawn-codes :
+    (t : State) (a : AgentNo)
+    → (BadState when (Sound t → ⊥)
+    else NoAgent when (t .agents ≤ a .0)
+    else Busy when (phaseOf t a ≡ Free → ⊥)
+    else AgentsFull when (mostAgents ≤ t .agents)
+    else says Done)
+    (stepOf t (Spawn a))
 unfolding stepOf
 spawn-codes t a =
     rows t
@@ -35,7 +42,14 @@ spawn-codes t a =
     (says Done)
     refl
 
-pub ask-codes : (t : State) (a : AgentNo) (u : SiteNo) → (BadState when (Sound t → ⊥) else NoAgent when (t .agents ≤ a .0) else NoSite when (t .sites ≤ u .0) else Busy when (phaseOf t a ≡ Free → ⊥) else says Done) (stepOf t (Ask a u))
+pub ask-codes :
+    (t : State) (a : AgentNo) (u : SiteNo)
+    → (BadState when (Sound t → ⊥)
+    else NoAgent when (t .agents ≤ a .0)
+    else NoSite when (t .sites ≤ u .0)
+    else Busy when (phaseOf t a ≡ Free → ⊥)
+    else says Done)
+    (stepOf t (Ask a u))
 unfolding stepOf
 ask-codes t a u =
     rows t
@@ -48,7 +62,14 @@ ask-codes t a u =
     (says Done)
     refl
 
-pub enrol-codes : (t : State) (a : AgentNo) → (BadState when (Sound t → ⊥) else NoAgent when (t .agents ≤ a .0) else OutOfTurn when ((p : AgentNo) → phaseOf t a ≡ Born p → ⊥) else LockHeld when (lockOf t ≡ Unheld → ⊥) else says Done) (stepOf t (Enrol a))
+pub enrol-codes :
+    (t : State) (a : AgentNo)
+    → (BadState when (Sound t → ⊥)
+    else NoAgent when (t .agents ≤ a .0)
+    else OutOfTurn when ((p : AgentNo) → phaseOf t a ≡ Born p → ⊥)
+    else LockHeld when (lockOf t ≡ Unheld → ⊥)
+    else says Done)
+    (stepOf t (Enrol a))
 unfolding stepOf
 enrol-codes t a =
     rows t
@@ -61,7 +82,13 @@ enrol-codes t a =
     (says Done)
     refl
 
-pub greet-codes : (t : State) (a : AgentNo) → (BadState when (Sound t → ⊥) else NoAgent when (t .agents ≤ a .0) else OutOfTurn when ((p : AgentNo) → phaseOf t a ≡ Enrolled p → ⊥) else says Done) (stepOf t (Greet a))
+pub greet-codes :
+    (t : State) (a : AgentNo)
+    → (BadState when (Sound t → ⊥)
+    else NoAgent when (t .agents ≤ a .0)
+    else OutOfTurn when ((p : AgentNo) → phaseOf t a ≡ Enrolled p → ⊥)
+    else says Done)
+    (stepOf t (Greet a))
 unfolding stepOf
 greet-codes t a =
     rows t
@@ -73,7 +100,14 @@ greet-codes t a =
     (says Done)
     refl
 
-pub grant-codes : (t : State) (a : AgentNo) → (BadState when (Sound t → ⊥) else NoAgent when (t .agents ≤ a .0) else OutOfTurn when ((u : SiteNo) → phaseOf t a ≡ Asking u → ⊥) else LockHeld when (lockOf t ≡ Unheld → ⊥) else says Done) (stepOf t (Grant a))
+pub grant-codes :
+    (t : State) (a : AgentNo)
+    → (BadState when (Sound t → ⊥)
+    else NoAgent when (t .agents ≤ a .0)
+    else OutOfTurn when ((u : SiteNo) → phaseOf t a ≡ Asking u → ⊥)
+    else LockHeld when (lockOf t ≡ Unheld → ⊥)
+    else says Done)
+    (stepOf t (Grant a))
 unfolding stepOf
 grant-codes t a =
     rows t
@@ -86,7 +120,13 @@ grant-codes t a =
     (says Done)
     refl
 
-pub leap-codes : (t : State) (a : AgentNo) → (BadState when (Sound t → ⊥) else NoAgent when (t .agents ≤ a .0) else OutOfTurn when ((u : SiteNo) → phaseOf t a ≡ Granted u → ⊥) else says Done) (stepOf t (Leap a))
+pub leap-codes :
+    (t : State) (a : AgentNo)
+    → (BadState when (Sound t → ⊥)
+    else NoAgent when (t .agents ≤ a .0)
+    else OutOfTurn when ((u : SiteNo) → phaseOf t a ≡ Granted u → ⊥)
+    else says Done)
+    (stepOf t (Leap a))
 unfolding stepOf
 leap-codes t a =
     rows t
@@ -98,7 +138,13 @@ leap-codes t a =
     (says Done)
     refl
 
-pub book-codes : (t : State) (a : AgentNo) → (BadState when (Sound t → ⊥) else NoAgent when (t .agents ≤ a .0) else OutOfTurn when (phaseOf t a ≡ Landed → ⊥) else says Done) (stepOf t (Book a))
+pub book-codes :
+    (t : State) (a : AgentNo)
+    → (BadState when (Sound t → ⊥)
+    else NoAgent when (t .agents ≤ a .0)
+    else OutOfTurn when (phaseOf t a ≡ Landed → ⊥)
+    else says Done)
+    (stepOf t (Book a))
 unfolding stepOf
 book-codes t a =
     rows t
@@ -110,7 +156,13 @@ book-codes t a =
     (says Done)
     refl
 
-pub settle-codes : (t : State) (a : AgentNo) → (BadState when (Sound t → ⊥) else NoAgent when (t .agents ≤ a .0) else OutOfTurn when (phaseOf t a ≡ Booked → ⊥) else says Done) (stepOf t (Settle a))
+pub settle-codes :
+    (t : State) (a : AgentNo)
+    → (BadState when (Sound t → ⊥)
+    else NoAgent when (t .agents ≤ a .0)
+    else OutOfTurn when (phaseOf t a ≡ Booked → ⊥)
+    else says Done)
+    (stepOf t (Settle a))
 unfolding stepOf
 settle-codes t a =
     rows t
@@ -122,7 +174,15 @@ settle-codes t a =
     (says Done)
     refl
 
-pub forward-codes : (t : State) (m : MailNo) → (BadState when (Sound t → ⊥) else NoMessage when (t .messages ≤ m .0) else OutOfTurn when (statusOf t m ≡ Queued → ⊥) else LockHeld when (lockOf t ≡ Unheld → ⊥) else NotEnrolled when (mapOf t (addresseeOf t m) ≡ Nowhere) else says Done) (stepOf t (Forward m))
+pub forward-codes :
+    (t : State) (m : MailNo)
+    → (BadState when (Sound t → ⊥)
+    else NoMessage when (t .messages ≤ m .0)
+    else OutOfTurn when (statusOf t m ≡ Queued → ⊥)
+    else LockHeld when (lockOf t ≡ Unheld → ⊥)
+    else NotEnrolled when (mapOf t (addresseeOf t m) ≡ Nowhere)
+    else says Done)
+    (stepOf t (Forward m))
 unfolding stepOf
 forward-codes t m =
     rows t
@@ -141,7 +201,13 @@ either-done : (b : Bool) (x y : State) → cond b (done x 0) (done y 0) .code �
 either-done true x y = refl
 either-done false x y = refl
 
-pub hand-codes : (t : State) (m : MailNo) → (BadState when (Sound t → ⊥) else NoMessage when (t .messages ≤ m .0) else OutOfTurn when ((s : SiteNo) → statusOf t m ≡ Out s → ⊥) else says Done) (stepOf t (Hand m))
+pub hand-codes :
+    (t : State) (m : MailNo)
+    → (BadState when (Sound t → ⊥)
+    else NoMessage when (t .messages ≤ m .0)
+    else OutOfTurn when ((s : SiteNo) → statusOf t m ≡ Out s → ⊥)
+    else says Done)
+    (stepOf t (Hand m))
 unfolding stepOf
 hand-codes t m =
     rows t
@@ -156,7 +222,13 @@ hand-codes t m =
     (withLogged (withStatus t m Handed) m)
     (withStatus t m Lost))
 
-pub close-codes : (t : State) (m : MailNo) → (BadState when (Sound t → ⊥) else NoMessage when (t .messages ≤ m .0) else OutOfTurn when (statusOf t m ≡ Handed → ⊥) else says Done) (stepOf t (Close m))
+pub close-codes :
+    (t : State) (m : MailNo)
+    → (BadState when (Sound t → ⊥)
+    else NoMessage when (t .messages ≤ m .0)
+    else OutOfTurn when (statusOf t m ≡ Handed → ⊥)
+    else says Done)
+    (stepOf t (Close m))
 unfolding stepOf
 close-codes t m =
     rows t

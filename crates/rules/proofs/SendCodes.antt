@@ -149,7 +149,13 @@ module _ (t : State) (s : Sound t) (a : AgentNo) (n : ℕ) (b : AgentNo) (v : �
             (old-codes e)
       ]
 
-pub send-codes : (t : State) (a : AgentNo) (n : ℕ) (b : AgentNo) (v : ℕ) → (BadState when (Sound t → ⊥) else NoAgent when ((t .agents ≤ a .0) ⊎ (t .agents ≤ b .0)) else NotUp when ((p : AgentNo) × Child t p a) else NumberRows t a n b v) (stepOf t (Send a n b v))
+pub send-codes :
+    (t : State) (a : AgentNo) (n : ℕ) (b : AgentNo) (v : ℕ)
+    → (BadState when (Sound t → ⊥)
+    else NoAgent when ((t .agents ≤ a .0) ⊎ (t .agents ≤ b .0))
+    else NotUp when ((p : AgentNo) × Child t p a)
+    else NumberRows t a n b v)
+    (stepOf t (Send a n b v))
 unfolding stepOf
 send-codes t a n b v =
     row

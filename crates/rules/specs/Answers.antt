@@ -1,4 +1,4 @@
--- The answers that every rule is made of.
+-- The answers that every rule is made of. Assumes nothing.
 use Prim.Native.Nat.{ℕ}
 use mathlib.Core.Bool.{Bool, true, false}
 use Rattle.records.specs.declared.MailNo.{MailNo}

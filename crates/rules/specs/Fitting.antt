@@ -1,4 +1,4 @@
--- What the rules about messages lean on where the table has passed its test: the counts keep within the arrays.
+-- What the rules about messages lean on where the table has passed its test: the counts keep within the arrays. Assumes nothing.
 use Prim.Native.Nat.{_≤_}
 use mathlib.Core.Path.{_≡_}
 use mathlib.Core.Bool.{Bool, true}

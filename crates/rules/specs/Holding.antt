@@ -1,4 +1,4 @@
--- What the table holds, how it is read, and the one place for each kind of change to it.
+-- What the table holds, how it is read, and the one place for each kind of change to it. Assumes nothing.
 use Prim.Native.Nat.{ℕ, suc, _<_}
 use mathlib.Core.Path.{_≡_}
 use mathlib.Core.Bool.{Bool, cond}

@@ -1,4 +1,4 @@
--- What a host reads of a table: an agent, a message, an entry of an inbox, or that there is none under the number.
+-- What a host reads of a table: an agent, a message, an entry of an inbox, or that there is none under the number. Assumes nothing.
 use Prim.Native.Nat.{ℕ, zero, suc}
 use mathlib.Core.Bool.{Bool, true, false, cond}
 use mathlib.Core.List.{List, [], _∷_}

@@ -1,4 +1,4 @@
--- Steps taken one after the other, each on the table that the one before handed back.
+-- Steps taken one after the other, each on the table that the one before handed back. Assumes nothing.
 use Prim.Native.Nat.{ℕ}
 use mathlib.Core.List.{List, [], _∷_}
 use Rattle.records.specs.Codes.{codeNumber}

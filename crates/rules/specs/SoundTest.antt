@@ -1,4 +1,4 @@
--- The soundness test of a table.
+-- The soundness test of a table. Assumes nothing.
 use mathlib.Core.Bool.{Bool}
 use Rattle.rules.specs.Tests.{partsSound}
 use Rattle.rules.specs.declared.State.{State}

@@ -1,4 +1,4 @@
--- When a table is sound: the clauses, in document 01's order.
+-- When a table is sound: the clauses, in document 01's order. Assumes nothing.
 use Prim.Native.Nat.{ℕ, suc, _≤_, _<_}
 use mathlib.Core.Path.{_≡_}
 use mathlib.Core.Logic.{_⊎_, _↔_}

@@ -1,4 +1,4 @@
--- Opening, and the twelve steps: each with its codes in their order, its number and its next table.
+-- Opening, and the twelve steps: each with its codes in their order, its number and its next table. Assumes nothing.
 use Prim.Native.Nat.{ℕ, suc}
 use mathlib.Core.Bool.{Bool, cond, not, _&&_}
 use lib.ListN.{set}

@@ -34,6 +34,7 @@ fn fill(script: &[u8], output: &mut [u8]) -> usize
     run(script, output)
 }
 
+// Writes the script's output to standard output, by way of a buffer that has room for any.
 fn write_output(script: &[u8], output: &mut [u8])
     requires { ⌜ mostOutput ≤ length (now output) ⌝ }
 {

@@ -3,6 +3,7 @@ use libc::STDOUT_FILENO;
 use script_io::input_room;
 use script_io::print;
 
+// Prints a script's output under a heading.
 fn report(name: &[u8], script: &[u8]) {
     io::write_all(STDOUT_FILENO, name);
     print(script);

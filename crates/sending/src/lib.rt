@@ -41,6 +41,7 @@ pub fn send(t: State, a: AgentNo, n: u32, b: AgentNo, v: u32) -> Reply
     send_rule(t, sound, a, n, b, v)
 }
 
+// Tests the two agents, and then goes by the number.
 fn send_rule(mut t: State, sound: bool, a: AgentNo, n: u32, b: AgentNo, v: u32) -> Reply
     requires { ⌜ FitIfSound sound t ⌝ }
     ensures { λ r. ⌜ r ≡ unless sound BadState t (sendRule t a n b v) ⌝ }
@@ -88,6 +89,7 @@ fn by_number(mut t: State, a: AgentNo, n: u32, b: AgentNo, v: u32) -> Reply
     retry(t, a, n, b, v)
 }
 
+// Takes the message n of a as the next one, queued.
 fn take_new(mut t: State, a: AgentNo, n: u32, b: AgentNo, v: u32) -> Reply
     ensures { λ r. ⌜ r ≡ takeNew t a n b v ⌝ }
 {

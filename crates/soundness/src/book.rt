@@ -110,6 +110,7 @@ fn log_runs(
     both(both(fine, complete), empty)
 }
 
+// Tells whether the numbers and the log are right. The senders are there already, so that each has a count.
 pub(crate) fn book_fine(
     messages: u32,
     handed: u32,

@@ -5,6 +5,7 @@ ghost use Rattle.rules.specs.Tests.{numberRoom};
 use records::flags::both;
 use records::limits::MESSAGE_ROOM;
 
+// Tells whether the room past n holds zeros only.
 pub(crate) fn number_room(n: u32, number: [u32; MESSAGE_ROOM]) -> bool
     ensures { λ r. ⌜ r ≡ numberRoom n number ⌝ }
 {

@@ -16,6 +16,7 @@ fn round(t: Table, u: u32) -> Table {
     booked.settle(AgentNo(0)).table
 }
 
+// Takes n rounds, one after the other.
 fn rounds(first: Table, n: u32) -> Table {
     let mut t = first;
     let mut i: u32 = 0;

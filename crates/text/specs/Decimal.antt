@@ -1,4 +1,4 @@
--- Numbers as decimal digits with no leading zero, and words as bytes.
+-- Numbers as decimal digits with no leading zero, and words as bytes. Assumes nothing.
 use Prim.Native.Nat.{ℕ, zero, suc, _+_, _/_, _%_}
 use Prim.Native.Char.{code}
 use Prim.Native.String.{String, [] as noText, _∷_ as _then_}

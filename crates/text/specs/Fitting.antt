@@ -1,4 +1,4 @@
--- A writing of a sound table: refused where its text is longer than the buffer.
+-- A writing of a sound table: refused where its text is longer than the buffer. Assumes nothing.
 use Prim.Native.Nat.{ℕ, _≤_}
 use mathlib.Core.List.{List}
 use lib.ListN.{length}

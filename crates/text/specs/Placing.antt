@@ -1,4 +1,4 @@
--- Bytes put into a buffer from a place on.
+-- Bytes put into a buffer from a place on. Assumes nothing.
 use Prim.Native.Nat.{ℕ, _+_}
 use mathlib.Core.Path.{_≡_}
 use mathlib.Core.Bool.{cond}

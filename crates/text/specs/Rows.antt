@@ -1,4 +1,5 @@
 -- The parts of the written table that have a writer of their own: of a line, one row of each kind, and the lines before the rows.
+-- Assumes nothing.
 use Prim.Native.Nat.{ℕ}
 use mathlib.Core.List.{List, [], _∷_, _++_}
 use Rattle.records.specs.declared.AgentNo.{AgentNo}

@@ -1,4 +1,4 @@
--- The written table: key=value lines, each ended by byte 10.
+-- The written table: key=value lines, each ended by byte 10. Assumes nothing.
 use Prim.Native.Nat.{ℕ, zero, suc}
 use mathlib.Core.List.{List, [], _∷_, _++_}
 use Rattle.records.specs.declared.Agent.{Agent}

@@ -1,4 +1,4 @@
--- A writing into a lent buffer.
+-- A writing into a lent buffer. Assumes nothing.
 use Prim.Native.Nat.{ℕ}
 use mathlib.Core.Bool.{Bool, true, false}
 use mathlib.Core.List.{List, _++_}

@@ -5,6 +5,7 @@ ghost use Prim.Native.Nat.{_+_, _<_};
 ghost use lib.ListN.{length};
 ghost use Rattle.text.specs.Placing.{Put, PutWithin};
 
+// Puts one byte at a place.
 pub(crate) fn put_byte(buf: &mut [u8], at: usize, byte: u8) -> usize
     requires { ⌜ at < 18446744073709551615 ⌝ }
     ensures { λ r. ⌜ Put (byte ∷ []) (now (buf .entry)) (now (buf .exit)) at r ⌝ }
@@ -15,6 +16,7 @@ pub(crate) fn put_byte(buf: &mut [u8], at: usize, byte: u8) -> usize
     at + 1
 }
 
+// Puts the bytes of word from a place on.
 pub(crate) fn put_word(buf: &mut [u8], at: usize, word: &[u8]) -> usize
     requires { ⌜ at + length (now word) < 18446744073709551616 ⌝ }
     ensures { λ r. ⌜ Put (now (word .entry)) (now (buf .entry)) (now (buf .exit)) at r ⌝ }

@@ -15,6 +15,7 @@ use records::Stand;
 use records::limits::AGENT_ROOM;
 use records::limits::MESSAGE_ROOM;
 
+// Puts a row for each agent.
 pub(crate) fn put_agents(
     buf: &mut [u8],
     at: usize,
@@ -36,6 +37,7 @@ pub(crate) fn put_agents(
     next
 }
 
+// Puts a row for each message.
 pub(crate) fn put_messages(
     buf: &mut [u8],
     at: usize,
@@ -73,6 +75,7 @@ pub(crate) fn put_messages(
     next
 }
 
+// Puts a row for each entry of the log.
 pub(crate) fn put_log(buf: &mut [u8], at: usize, handed: u32, log: [MailNo; MESSAGE_ROOM]) -> usize
     requires { ⌜ at < 300000 ⌝ }
     requires { ⌜ handed ≤ mostMessages ⌝ }
