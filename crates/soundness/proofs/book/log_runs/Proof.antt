@@ -18,7 +18,9 @@ abbrev test : MailNo → Bool
 test x = eqb (x .0) 0
 
 abbrev Inv-loop : tie.InvT-loop
-Inv-loop messages handed status log seen₀ fine₀ i₀ seen fine i = (i ≤ handed) × (logRuns messages status log handed 0 noMarks ≡ (fine && logRuns messages status log (handed - i) i seen))
+Inv-loop messages handed status log seen₀ fine₀ i₀ seen fine i =
+    (i ≤ handed)
+    × (logRuns messages status log handed 0 noMarks ≡ (fine && logRuns messages status log (handed - i) i seen))
 
 abbrev μ-loop : tie.MeasureT-loop
 μ-loop messages handed status log seen₀ fine₀ i₀ seen fine i = handed - i

@@ -18,7 +18,9 @@ abbrev test : Stand → Bool
 test x = isQueued (x .status)
 
 abbrev Inv-loop : tie.InvT-loop
-Inv-loop messages status seen fine₀ i₀ fine i = (i ≤ messages) × (fine ≡ allBelow i (λ j. Bool·beq (getD seen j false) (isDelivered (statusIn status (mailNo j)))))
+Inv-loop messages status seen fine₀ i₀ fine i =
+    (i ≤ messages)
+    × (fine ≡ allBelow i (λ j. Bool·beq (getD seen j false) (isDelivered (statusIn status (mailNo j)))))
 
 abbrev μ-loop : tie.MeasureT-loop
 μ-loop messages status seen fine₀ i₀ fine i = messages - i

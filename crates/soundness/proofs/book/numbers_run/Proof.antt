@@ -18,7 +18,10 @@ abbrev test : ℕ → Bool
 test x = eqb x 0
 
 abbrev Inv-loop : tie.InvT-loop
-Inv-loop messages sender number counts₀ fine₀ i₀ counts fine i = (i ≤ messages) × (((k : ℕ) → getD counts k 0 ≤ i) × (numbersRun sender number messages 0 noCounts ≡ (fine && numbersRun sender number (messages - i) i counts)))
+Inv-loop messages sender number counts₀ fine₀ i₀ counts fine i =
+    (i ≤ messages)
+    × (((k : ℕ) → getD counts k 0 ≤ i)
+    × (numbersRun sender number messages 0 noCounts ≡ (fine && numbersRun sender number (messages - i) i counts)))
 
 abbrev μ-loop : tie.MeasureT-loop
 μ-loop messages sender number counts₀ fine₀ i₀ counts fine i = messages - i
@@ -51,7 +54,10 @@ array-read-next : tie.Need-array-read-next Inv-loop μ-loop Inv-loop2 μ-loop2
 array-read-next c = c .before .before .before .before .pre .1 (c .before .before .before .loop .i) (search needs)
 
 add-next : tie.Need-add-next Inv-loop μ-loop Inv-loop2 μ-loop2
-add-next c = omega (arith, c .before .before .before .loop .inv .1 .0 (partyIn (c .before .before .before .before .args .t2) (mailNo (c .before .before .before .loop .i)) .0))
+add-next c =
+    let at-loop = c .before .before .before in
+    let loop = at-loop .loop in
+    omega (arith, loop .inv .1 .0 (partyIn (at-loop .before .args .t2) (mailNo (loop .i)) .0))
 
 mul-told : tie.Need-mul-told Inv-loop μ-loop Inv-loop2 μ-loop2
 mul-told c = search needs
