@@ -14,10 +14,10 @@ messages-fine-requires : tie.Need-messages-fine-requires
 messages-fine-requires c κs = search needs
 
 both-requires : tie.Need-both-requires
-both-requires c κs = search needs
+both-requires c κs = tt
 
 both-requires-2 : tie.Need-both-requires-2
-both-requires-2 c κs = search needs
+both-requires-2 c κs = tt
 
 returns : tie.Need-returns
 unfolding eachFine

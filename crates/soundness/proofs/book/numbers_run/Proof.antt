@@ -66,7 +66,7 @@ array-read-told : tie.Need-array-read-told Inv-loop μ-loop Inv-loop2 μ-loop2
 array-read-told c = search needs
 
 both-requires : tie.Need-both-requires Inv-loop μ-loop Inv-loop2 μ-loop2
-both-requires c κs = search needs
+both-requires c κs = tt
 
 mul-counts : tie.Need-mul-counts Inv-loop μ-loop Inv-loop2 μ-loop2
 mul-counts c = search needs
@@ -108,7 +108,7 @@ array-read-past : tie.Need-array-read-past Inv-loop μ-loop Inv-loop2 μ-loop2
 array-read-past c = search needs
 
 both-requires-2 : tie.Need-both-requires-2 Inv-loop μ-loop Inv-loop2 μ-loop2
-both-requires-2 c κs = search needs
+both-requires-2 c κs = tt
 
 add-j : tie.Need-add-j Inv-loop μ-loop Inv-loop2 μ-loop2
 add-j c = search needs
@@ -124,7 +124,7 @@ loop2-again c =
     room-on test (args .t3) 0 (args .messages) (loop2 .j) (loop2 .empty) (c .both2 .result) (loop2 .inv) (c .both2 .ensures) (search needs)
 
 both-requires-3 : tie.Need-both-requires-3 Inv-loop μ-loop Inv-loop2 μ-loop2
-both-requires-3 c κs = search needs
+both-requires-3 c κs = tt
 
 returns : tie.Need-returns Inv-loop μ-loop Inv-loop2 μ-loop2
 unfolding numberRoom

@@ -65,10 +65,10 @@ array-copy-out-stand : tie.Need-array-copy-out-stand Inv-loop μ-loop Inv-loop2 
 array-copy-out-stand c = search needs
 
 agent-place-requires : tie.Need-agent-place-requires Inv-loop μ-loop Inv-loop2 μ-loop2 Inv-loop3 μ-loop3
-agent-place-requires c κs = search needs
+agent-place-requires c κs = tt
 
 agent-place-requires-2 : tie.Need-agent-place-requires-2 Inv-loop μ-loop Inv-loop2 μ-loop2 Inv-loop3 μ-loop3
-agent-place-requires-2 c κs = search needs
+agent-place-requires-2 c κs = tt
 
 mul-from : tie.Need-mul-from Inv-loop μ-loop Inv-loop2 μ-loop2 Inv-loop3 μ-loop3
 mul-from c = search needs
@@ -83,7 +83,7 @@ array-copy-out-to : tie.Need-array-copy-out-to Inv-loop μ-loop Inv-loop2 μ-loo
 array-copy-out-to c = search needs
 
 parties-fine-requires : tie.Need-parties-fine-requires Inv-loop μ-loop Inv-loop2 μ-loop2 Inv-loop3 μ-loop3
-parties-fine-requires c κs = search needs
+parties-fine-requires c κs = tt
 
 add-i : tie.Need-add-i Inv-loop μ-loop Inv-loop2 μ-loop2 Inv-loop3 μ-loop3
 add-i c = search needs
@@ -134,7 +134,7 @@ returns c =
     )))
 
 status-right-requires : tie.Need-status-right-requires Inv-loop μ-loop Inv-loop2 μ-loop2 Inv-loop3 μ-loop3
-status-right-requires c κs = search needs
+status-right-requires c κs = tt
 
 returns-2 : tie.Need-returns-2 Inv-loop μ-loop Inv-loop2 μ-loop2 Inv-loop3 μ-loop3
 returns-2 c =
@@ -171,7 +171,7 @@ array-copy-out-past : tie.Need-array-copy-out-past Inv-loop μ-loop Inv-loop2 μ
 array-copy-out-past c = search needs
 
 both-requires : tie.Need-both-requires Inv-loop μ-loop Inv-loop2 μ-loop2 Inv-loop3 μ-loop3
-both-requires c κs = search needs
+both-requires c κs = tt
 
 add-j : tie.Need-add-j Inv-loop μ-loop Inv-loop2 μ-loop2 Inv-loop3 μ-loop3
 add-j c = search needs
@@ -196,7 +196,7 @@ array-copy-out-past-2 : tie.Need-array-copy-out-past-2 Inv-loop μ-loop Inv-loop
 array-copy-out-past-2 c = search needs
 
 both-requires-2 : tie.Need-both-requires-2 Inv-loop μ-loop Inv-loop2 μ-loop2 Inv-loop3 μ-loop3
-both-requires-2 c κs = search needs
+both-requires-2 c κs = tt
 
 add-k : tie.Need-add-k Inv-loop μ-loop Inv-loop2 μ-loop2 Inv-loop3 μ-loop3
 add-k c = search needs
@@ -213,7 +213,7 @@ loop3-again c =
     (search needs)
 
 both-requires-3 : tie.Need-both-requires-3 Inv-loop μ-loop Inv-loop2 μ-loop2 Inv-loop3 μ-loop3
-both-requires-3 c κs = search needs
+both-requires-3 c κs = tt
 
 returns-3 : tie.Need-returns-3 Inv-loop μ-loop Inv-loop2 μ-loop2 Inv-loop3 μ-loop3
 unfolding partyRoom
