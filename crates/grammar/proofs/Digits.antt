@@ -39,7 +39,11 @@ run-ends bs i h = rw (drop-of-length-le bs h)
 pub value-starts : (bs : List ℕ) (n : ℕ) → valueFrom 0 n bs ≡ valueFrom 0 (n - 0) bs
 value-starts bs n = simp sub-zero
 
-pub value-on : (bs : List ℕ) (v n i : ℕ) → i < n → i < length bs → valueFrom v (n - i) (drop i bs) ≡ valueFrom (v * 10 + (getD bs i 0 - 48)) (n - (i + 1)) (drop (i + 1) bs)
+pub value-on :
+    (bs : List ℕ) (v n i : ℕ)
+    → i < n
+    → i < length bs
+    → valueFrom v (n - i) (drop i bs) ≡ valueFrom (v * 10 + (getD bs i 0 - 48)) (n - (i + 1)) (drop (i + 1) bs)
 unfolding valueFrom
 value-on bs v n i k h =
     let e : n - i ≡ suc (n - suc i) = omega arith in

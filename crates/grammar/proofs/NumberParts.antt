@@ -79,18 +79,26 @@ abbrev moreNumbers : ℕ → List ℕ → Numeral → Numbers
 moreNumbers m bs NoNumber = none
 moreNumbers m bs (Number v n) = andThen v (numbersOf m (drop n bs))
 
-comma-case : (m v n : ℕ) (bs rest : List ℕ) (t : Bool) → drop (suc n) bs ≡ rest → andThen v (cond t (numbersOf m rest) none) ≡ moreNumbers m bs (cond t (Number v (suc n)) NoNumber)
+comma-case :
+    (m v n : ℕ) (bs rest : List ℕ) (t : Bool)
+    → drop (suc n) bs ≡ rest
+    → andThen v (cond t (numbersOf m rest) none) ≡ moreNumbers m bs (cond t (Number v (suc n)) NoNumber)
 comma-case m v n bs rest true e = rw e
 comma-case m v n bs rest false e = refl
 
 one-further : (n b : ℕ) (bs rest : List ℕ) → drop n bs ≡ b ∷ rest → drop (suc n) bs ≡ rest
 one-further n b bs rest e = rw (← add-one n, ← drop-drop 1 n bs, e)
 
-comma-by : (m v n : ℕ) (bs rest : List ℕ) → drop n bs ≡ rest → andThen v (pastComma rest (λ more. numbersOf m more)) ≡ moreNumbers m bs (cond (isComma rest) (Number v (suc n)) NoNumber)
+comma-by :
+    (m v n : ℕ) (bs rest : List ℕ)
+    → drop n bs ≡ rest
+    → andThen v (pastComma rest (λ more. numbersOf m more)) ≡ moreNumbers m bs (cond (isComma rest) (Number v (suc n)) NoNumber)
 comma-by m v n bs [] e = refl
 comma-by m v n bs (b ∷ rest) e = comma-case m v n bs rest (eqb b 44) (one-further n b bs rest e)
 
-more-by : (m : ℕ) (bs : List ℕ) (x : Numeral) → thenNumbers x bs (λ rest. pastComma rest (λ more. numbersOf m more)) ≡ moreNumbers m bs (withComma bs x)
+more-by :
+    (m : ℕ) (bs : List ℕ) (x : Numeral)
+    → thenNumbers x bs (λ rest. pastComma rest (λ more. numbersOf m more)) ≡ moreNumbers m bs (withComma bs x)
 more-by m bs NoNumber = refl
 more-by m bs (Number v n) = comma-by m v n bs (drop n bs) refl
 

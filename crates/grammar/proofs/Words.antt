@@ -13,7 +13,12 @@ use Rattle.grammar.specs.Grammar.{After, other, after, afterWord}
 use Rattle.grammar.specs.LineParts.{isAfter}
 
 -- the same byte, another byte, the text's end, the word's end
-pub word-on : (w bs : List ℕ) (i : ℕ) → i < length w → i < length bs → getD w i 0 ≡ getD bs i 0 → afterWord (drop i w) (drop i bs) ≡ afterWord (drop (i + 1) w) (drop (i + 1) bs)
+pub word-on :
+    (w bs : List ℕ) (i : ℕ)
+    → i < length w
+    → i < length bs
+    → getD w i 0 ≡ getD bs i 0
+    → afterWord (drop i w) (drop i bs) ≡ afterWord (drop (i + 1) w) (drop (i + 1) bs)
 unfolding afterWord
 word-on w bs i h k e = rw (add-one i, drop-cons w i 0, drop-cons bs i 0, eq-eqb (getD w i 0) (getD bs i 0) e)
 

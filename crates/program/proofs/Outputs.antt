@@ -90,7 +90,12 @@ module _ (Fine : State → Type 0)
   line-fine d (Take s) f = step-fine d s (d .opened) refl f
 
   -- the end of a run
-  ends : (r : Ran) (d : Desk) (b : Bool) → d .opened ≡ b → FineDesk d → r .next + length (closing d) ≤ length (r .buffer) → runEnd r d ≡ onward r (closing d)
+  ends :
+      (r : Ran) (d : Desk) (b : Bool)
+      → d .opened ≡ b
+      → FineDesk d
+      → r .next + length (closing d) ≤ length (r .buffer)
+      → runEnd r d ≡ onward r (closing d)
   unfolding runEnd closing
   ends r d true e f h =
       let text : written (d .table .state) ≡ closing d = when-true (d .opened) (written (d .table .state)) (bytes "state=none\n") e in
@@ -106,7 +111,11 @@ module _ (Fine : State → Type 0)
   room-left : (r : Ran) (x y : List ℕ) → r .next + length (x ++ y) ≤ length (r .buffer) → onward r x .next + length y ≤ length (onward r x .buffer)
   room-left r x y h = simp length-sets (omega (arith, simp length-append at h))
 
-  lines-onward : (ls : List (List ℕ)) (r : Ran) (d : Desk) (k : ℕ) → FineDesk d → r .next + length (outputFrom d k ls) ≤ length (r .buffer) → runLines r d k ls ≡ onward r (outputFrom d k ls)
+  lines-onward :
+      (ls : List (List ℕ)) (r : Ran) (d : Desk) (k : ℕ)
+      → FineDesk d
+      → r .next + length (outputFrom d k ls) ≤ length (r .buffer)
+      → runLines r d k ls ≡ onward r (outputFrom d k ls)
   unfolding runLines outputFrom
   lines-onward [] r d k f h = ends r d (d .opened) refl f h
   lines-onward (l ∷ ls) r d k f h =
@@ -120,7 +129,11 @@ module _ (Fine : State → Type 0)
   never-opened : FineDesk noDesk
   never-opened e = absurd (false≢true e)
 
-  run-by : (input b : List ℕ) (t : Bool) → leb (length input) mostInput ≡ t → length (outputOf input) ≤ length b → runOf input b ≡ onward (atFront b) (outputOf input)
+  run-by :
+      (input b : List ℕ) (t : Bool)
+      → leb (length input) mostInput ≡ t
+      → length (outputOf input) ≤ length b
+      → runOf input b ≡ onward (atFront b) (outputOf input)
   unfolding runOf outputOf
   run-by input b true e h =
       let text : outputFrom noDesk 1 (linesOf input) ≡ outputOf input = when-true (leb (length input) mostInput) _ (bytes "state=toolong\n") e in
@@ -132,5 +145,8 @@ module _ (Fine : State → Type 0)
       ∙ behind-within (atFront b) (bytes "state=toolong\n") zero-le
       ∙ ap (onward (atFront b)) (when-false (leb (length input) mostInput) (outputFrom noDesk 1 (linesOf input)) _ e)
 
-  pub run-output : (input b : List ℕ) → length (outputOf input) ≤ length b → runOf input b ≡ from (length (outputOf input)) (outputOf input ++ drop (length (outputOf input)) b)
+  pub run-output :
+      (input b : List ℕ)
+      → length (outputOf input) ≤ length b
+      → runOf input b ≡ from (length (outputOf input)) (outputOf input ++ drop (length (outputOf input)) b)
   run-output input b h = run-by input b (leb (length input) mostInput) refl h ∙ onward-front (outputOf input) b h

@@ -68,7 +68,10 @@ module _ (at : ℕ) (b : List ℕ) (t : State) (h : at ≤ length b) {w : Writte
       let all : length (drop at b) ≤ length b - at = simp length-drop (omega arith) in
       rw (drop-of-length-le (drop at b) all) (append-nil part)
 
-  pub table-put : {part : List ℕ} → part ≡ writeOf t (take (length b - at) (drop at b)) .buffer → Came (tableBehind (from at b) t) (at + w .length) (take at b ++ (part ++ drop (length b - at) (drop at b)))
+  pub table-put :
+      {part : List ℕ}
+      → part ≡ writeOf t (take (length b - at) (drop at b)) .buffer
+      → Came (tableBehind (from at b) t) (at + w .length) (take at b ++ (part ++ drop (length b - at) (drop at b)))
   unfolding tableBehind
   table-put {part} f =
       came-same
@@ -80,18 +83,23 @@ module _ (at : ℕ) (b : List ℕ) (t : State) (h : at ≤ length b) {w : Writte
 
 -- one line further, and no line left
 run-on : (r : Ran) (d : Desk) (k : ℕ) (rest : List ℕ) → 0 < length rest
-    → runLines r d k (linesOf rest) ≡ runLines (behind r (turnLine k (takeLine d (lineOf (firstLine rest))))) (takeLine d (lineOf (firstLine rest)) .desk) (suc k) (linesOf (afterLine rest))
+    → runLines r d k (linesOf rest)
+    ≡ runLines (behind r (turnLine k (takeLine d (lineOf (firstLine rest))))) (takeLine d (lineOf (firstLine rest)) .desk) (suc k) (linesOf (afterLine rest))
 unfolding runLines
 run-on r d k rest h = rw (lines-of-some rest h)
 
-answered : (k at next : ℕ) (b after : List ℕ) (x : Turn) → PutWithin (turnLine (k + 1) x) b after at next → from next after ≡ behind (from at b) (turnLine (suc k) x)
+answered :
+    (k at next : ℕ) (b after : List ℕ) (x : Turn)
+    → PutWithin (turnLine (k + 1) x) b after at next
+    → from next after ≡ behind (from at b) (turnLine (suc k) x)
 unfolding answerLine
 answered k at next b after x p = ap₂ from (p .place) (p .held) ∙ rw add-one
 
 module _ (k : ℕ) (rest : List ℕ) (d : Desk) {at next taken : ℕ} {b after line : List ℕ} {x : Line} {r : Turn} where
   pub turn-on : 0 < length rest → line ≡ firstLine rest → x ≡ lineOf line → r ≡ takeLine d x
       → PutWithin (turnLine (k + 1) r) b after at next → taken ≡ lineTaken rest
-      → runLines (from at b) d (suc k) (linesOf rest) ≡ runLines (from next after) (r .desk) (suc (k + 1)) (linesOf (take (length rest - taken) (drop taken rest)))
+      → runLines (from at b) d (suc k) (linesOf rest)
+      ≡ runLines (from next after) (r .desk) (suc (k + 1)) (linesOf (take (length rest - taken) (drop taken rest)))
   turn-on h e f g p q =
       let left : take (length rest - taken) (drop taken rest) ≡ afterLine rest = part-from taken rest ∙ ap (λ (n : ℕ). drop n rest) q in
       let turn : r ≡ takeLine d (lineOf (firstLine rest)) = g ∙ ap (takeLine d) (f ∙ ap lineOf e) in

@@ -1,17 +1,63 @@
 -- Session S as the program sees it: its bytes give the printed text, byte for byte.
+use Prim.Native.Nat.{ℕ}
 use Prim.Native.String.{String}
+use mathlib.Core.List.{List, [], _∷_, _++_}
 use mathlib.Core.Path.{_≡_, refl}
 use Rattle.text.specs.Decimal.{bytes}
 use Rattle.program.specs.Program.{outputOf}
 
-abbrev pub scriptS : String
+-- the bytes of a text, each of whose lines ends with a line feed
+abbrev pub lined : List String → List ℕ
+lined [] = []
+lined (l ∷ ls) = bytes l ++ (10 ∷ lined ls)
+
+abbrev pub scriptS : List String
 scriptS =
-    "sites=3\nspawn=0\nenrol=1\ngreet=1\nsend=0,1,1,77\nask=1,2\nsend=0,1,1,77\nsend=0,1,1,78\ngrant=1\nforward=0\nleap=1\nbook=1\nforward=0\nhand=0\nclose=0\n"
+    "sites=3"
+    ∷ "spawn=0"
+    ∷ "enrol=1"
+    ∷ "greet=1"
+    ∷ "send=0,1,1,77"
+    ∷ "ask=1,2"
+    ∷ "send=0,1,1,77"
+    ∷ "send=0,1,1,78"
+    ∷ "grant=1"
+    ∷ "forward=0"
+    ∷ "leap=1"
+    ∷ "book=1"
+    ∷ "forward=0"
+    ∷ "hand=0"
+    ∷ "close=0"
+    ∷ []
 
-abbrev pub printedS : String
+abbrev pub printedS : List String
 printedS =
-    "line.1=0,0\nline.2=0,1\nline.3=0,0\nline.4=0,0\nline.5=0,0\nline.6=0,0\nline.7=1,0\nline.8=20,0\nline.9=0,0\nline.10=16,0\nline.11=0,0\nline.12=0,0\nline.13=0,0\nline.14=0,0\nline.15=0,0\nsites=3\nagents=2\nmessages=1\nhanded=1\nlock=free\nagent.0=0,free,-,0\nagent.1=2,booked,-,2\nmessage.0=0,1,1,77,closed,-\nlog.0=0\n"
+    "line.1=0,0"
+    ∷ "line.2=0,1"
+    ∷ "line.3=0,0"
+    ∷ "line.4=0,0"
+    ∷ "line.5=0,0"
+    ∷ "line.6=0,0"
+    ∷ "line.7=1,0"
+    ∷ "line.8=20,0"
+    ∷ "line.9=0,0"
+    ∷ "line.10=16,0"
+    ∷ "line.11=0,0"
+    ∷ "line.12=0,0"
+    ∷ "line.13=0,0"
+    ∷ "line.14=0,0"
+    ∷ "line.15=0,0"
+    ∷ "sites=3"
+    ∷ "agents=2"
+    ∷ "messages=1"
+    ∷ "handed=1"
+    ∷ "lock=free"
+    ∷ "agent.0=0,free,-,0"
+    ∷ "agent.1=2,booked,-,2"
+    ∷ "message.0=0,1,1,77,closed,-"
+    ∷ "log.0=0"
+    ∷ []
 
-pub session-s : outputOf (bytes scriptS) ≡ bytes printedS
+pub session-s : outputOf (lined scriptS) ≡ lined printedS
 unfolding outputOf
 session-s = refl

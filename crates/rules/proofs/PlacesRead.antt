@@ -21,7 +21,12 @@ use Rattle.rules.specs.Tests.{agentSites, family, mapRight, agentFine, m
 use Rattle.records.proofs.FlagLaws.{by-test}
 
 -- the agent at a place is the one with that number, where the number is below 64
-placed : (agent : List Agent) (a : AgentNo) (agents p : ℕ) → agents ≤ 64 → (a .0 < 64 → p ≡ a .0) → a .0 < agents → getD agent p emptyAgent ≡ agentIn agent a
+placed :
+    (agent : List Agent) (a : AgentNo) (agents p : ℕ)
+    → agents ≤ 64
+    → (a .0 < 64 → p ≡ a .0)
+    → a .0 < agents
+    → getD agent p emptyAgent ≡ agentIn agent a
 placed agent a agents p few right there =
     let below : a .0 < 64 = omega arith in ap (λ (k : ℕ). getD agent k emptyAgent) (right below)
 

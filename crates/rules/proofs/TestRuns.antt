@@ -16,10 +16,14 @@ use Rattle.rules.specs.Tests.{partyIn, entryIn, numbersRun, delivered, l
 use Rattle.records.proofs.FlagLaws.{by-test}
 
 -- every message is still to come at the start
-pub numbers-start : (sender : List AgentNo) (number : List ℕ) (m : ℕ) (counts : List ℕ) → numbersRun sender number m 0 counts ≡ numbersRun sender number (m - 0) 0 counts
+pub numbers-start :
+    (sender : List AgentNo) (number : List ℕ) (m : ℕ) (counts : List ℕ)
+    → numbersRun sender number m 0 counts ≡ numbersRun sender number (m - 0) 0 counts
 numbers-start sender number m counts = let whole : m - 0 ≡ m = omega arith in rw whole
 
-pub log-start : (messages : ℕ) (status : List Stand) (log : List MailNo) (h : ℕ) (seen : List Bool) → logRuns messages status log h 0 seen ≡ logRuns messages status log (h - 0) 0 seen
+pub log-start :
+    (messages : ℕ) (status : List Stand) (log : List MailNo) (h : ℕ) (seen : List Bool)
+    → logRuns messages status log h 0 seen ≡ logRuns messages status log (h - 0) 0 seen
 log-start messages status log h seen = let whole : h - 0 ≡ h = omega arith in rw whole
 
 one-less : (m i : ℕ) → i < m → m - i ≡ suc (m - (i + 1))
@@ -73,6 +77,9 @@ log-on messages status log h i seen fine p more few right =
     rw (one-less h i more, right (omega arith), add-one i) (sym (and-assoc fine _ _)))
     (λ gone. rw (one-less h i more) (simp (gone, and-false)))
 
-pub log-end : (messages : ℕ) (status : List Stand) (log : List MailNo) (h i : ℕ) (seen : List Bool) → h ≤ i → logRuns messages status log (h - i) i seen ≡ delivered messages status seen
+pub log-end :
+    (messages : ℕ) (status : List Stand) (log : List MailNo) (h i : ℕ) (seen : List Bool)
+    → h ≤ i
+    → logRuns messages status log (h - i) i seen ≡ delivered messages status seen
 unfolding logRuns
 log-end messages status log h i seen done = let none : h - i ≡ 0 = omega arith in rw none

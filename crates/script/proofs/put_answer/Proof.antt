@@ -28,12 +28,17 @@ array-share-prefix-room c = search needs
 -- the line stands at the front of the room, which is long enough for it
 module _ (c : tie.After-answer-line) where
   abbrev lineShowing : ℕ → List ℕ
-  lineShowing shown = row (bytes "line") (c .before .before .before .before .args .k) (fields (decimal shown ∷ decimal (c .before .before .before .before .args .number) ∷ []))
+  lineShowing shown =
+      row (bytes "line") (c .before .before .before .before .args .k)
+      (fields (decimal shown ∷ decimal (c .before .before .before .before .args .number) ∷ []))
 
   front : take (c .answer-line .result) (c .answer-line .last .0) ≡ lineShowing (c .before .before .code-number .result)
   front = put-front (omega (arith, c .answer-line .ensures .0 .place, c .answer-line .ensures .1)) (c .answer-line .ensures .0)
 
-  answer : take (c .answer-line .result) (c .answer-line .last .0) ≡ answerLine (c .before .before .before .before .args .k) (c .before .before .before .before .args .code) (c .before .before .before .before .args .number)
+  answer :
+      take (c .answer-line .result) (c .answer-line .last .0)
+      ≡ answerLine (c .before .before .before .before .args .k) (c .before .before .before .before .args .code)
+      (c .before .before .before .before .args .number)
   unfolding answerLine
   answer = front ∙ ap lineShowing (c .before .before .code-number .ensures)
 

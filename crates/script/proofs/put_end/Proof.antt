@@ -14,7 +14,10 @@ same-length c = search needs
 
 returns : tie.Need-returns
 unfolding runEnd
-returns c = came-same (when-true (c .before .before .before .before .before .before .before .args .desk .opened) _ _ (c .before .before .before .before .before .if1 .taken)) (c .before .before .put-table .ensures)
+returns c =
+    let at-test = c .before .before .before .before .before in
+    let desk = at-test .before .before .args .desk in
+    came-same (when-true (desk .opened) _ _ (at-test .if1 .taken)) (c .before .before .put-table .ensures)
 
 slice-aggregate-put-text : tie.Need-slice-aggregate-put-text
 slice-aggregate-put-text c = search needs
@@ -27,7 +30,10 @@ same-length-2 c = search needs
 
 returns-2 : tie.Need-returns-2
 unfolding runEnd
-returns-2 c = came-same (when-false (c .before .before .before .before .before .before .before .args .desk .opened) _ _ (c .before .before .before .before .before .if1 .left)) (came-put (c .before .before .put-text .ensures))
+returns-2 c =
+    let at-test = c .before .before .before .before .before in
+    let desk = at-test .before .before .args .desk in
+    came-same (when-false (desk .opened) _ _ (at-test .if1 .left)) (came-put (c .before .before .put-text .ensures))
 
 pub put-end-spec : {M : Type 1} → statement M
 put-end-spec =

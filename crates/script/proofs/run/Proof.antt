@@ -18,7 +18,9 @@ same-length c = search needs
 
 returns : tie.Need-returns
 unfolding runOf
-returns c = came-same (when-false _ _ _ (lt-leb _ _ (c .before .before .before .before .before .if1 .taken))) (came-put (c .before .before .put-text .ensures))
+returns c =
+    came-same (when-false _ _ _ (lt-leb _ _ (c .before .before .before .before .before .if1 .taken)))
+    (came-put (c .before .before .put-text .ensures))
 
 run-lines-requires : tie.Need-run-lines-requires
 run-lines-requires c κs = search needs

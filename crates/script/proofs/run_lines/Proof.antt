@@ -46,25 +46,55 @@ line-taken-requires : tie.Need-line-taken-requires Inv-loop μ-loop
 line-taken-requires c κs = tt
 
 sub-rest : tie.Need-sub-rest Inv-loop μ-loop
-sub-rest c = omega (arith, c .line-taken .ensures, taken-within (c .before .before .before .before .before .before .before .before .before .before .loop .rest .now))
+sub-rest c =
+    let at-loop = c .before .before .before .before .before .before .before .before .before .before in
+    omega (arith, c .line-taken .ensures, taken-within (at-loop .loop .rest .now))
 
 part-rest-start : tie.Need-part-rest-start Inv-loop μ-loop
-part-rest-start c = omega (arith, c .line-taken .ensures, taken-within (c .before .before .before .before .before .before .before .before .before .before .loop .rest .now))
+part-rest-start c =
+    let at-loop = c .before .before .before .before .before .before .before .before .before .before in
+    omega (arith, c .line-taken .ensures, taken-within (at-loop .loop .rest .now))
 
 part-rest-end : tie.Need-part-rest-end Inv-loop μ-loop
 part-rest-end c = search needs
 
 loop-less : tie.Need-loop-less Inv-loop μ-loop
-loop-less c = omega (arith, part-length (c .before .line-taken .result) (c .before .before .before .before .before .before .before .before .before .before .before .loop .rest .now), taken-some (c .before .before .before .before .before .before .before .before .before .before .before .loop .rest .now) (c .before .before .before .before .before .before .before .before .before .before .loop-test .taken), c .before .line-taken .ensures, taken-within (c .before .before .before .before .before .before .before .before .before .before .before .loop .rest .now))
+loop-less c =
+    let taken = c .before .line-taken in
+    let at-test = c .before .before .before .before .before .before .before .before .before .before in
+    let rest = at-test .before .loop .rest .now in
+    omega (
+      arith,
+      part-length (taken .result) rest,
+      taken-some rest (at-test .loop-test .taken),
+      taken .ensures,
+      taken-within rest,
+    )
 
 loop-again : tie.Need-loop-again Inv-loop μ-loop
 loop-again c =
-    let loop = c .before .before .before .before .before .before .before .before .before .before .before .loop in (
-      omega (arith, part-length (c .before .line-taken .result) (c .before .before .before .before .before .before .before .before .before .before .before .loop .rest .now), taken-some (c .before .before .before .before .before .before .before .before .before .before .before .loop .rest .now) (c .before .before .before .before .before .before .before .before .before .before .loop-test .taken), c .before .line-taken .ensures, taken-within (c .before .before .before .before .before .before .before .before .before .before .before .loop .rest .now)),
+    let taken = c .before .line-taken in
+    let at-put = c .before .before .before .before .before in
+    let at-take = at-put .before .before in
+    let at-read = at-take .before in
+    let at-first = at-read .before in
+    let at-test = at-first .before in
+    let loop = at-test .before .loop in
+    let rest = loop .rest .now in (
+      omega (
+        arith,
+        part-length (taken .result) rest,
+        taken-some rest (at-test .loop-test .taken),
+        taken .ensures,
+        taken-within rest,
+      ),
       (
-        c .before .before .before .before .before .put-answer .kept .0 ∙ loop .inv .1 .0,
+        at-put .put-answer .kept .0 ∙ loop .inv .1 .0,
         loop .inv .1 .1
-            ∙ turn-on (loop .k) (loop .rest .now) (loop .desk) (c .before .before .before .before .before .before .before .before .before .before .loop-test .taken) (c .before .before .before .before .before .before .before .before .before .first-line .ensures) (c .before .before .before .before .before .before .before .before .read-line .ensures) (c .before .before .before .before .before .before .before .take .ensures) (c .before .before .before .before .before .put-answer .ensures) (c .before .line-taken .ensures),
+            ∙ turn-on (loop .k) rest (loop .desk) (at-test .loop-test .taken) (at-first .first-line .ensures) (at-read .read-line .ensures)
+            (at-take .take .ensures)
+            (at-put .put-answer .ensures)
+            (taken .ensures),
       ),
     )
 
@@ -76,8 +106,11 @@ same-length c = c .before .before .put-end .kept .0 ∙ c .before .before .befor
 
 returns : tie.Need-returns Inv-loop μ-loop
 returns c =
-    let loop = c .before .before .before .before .before .loop in
-    came-same (run-ends (from (loop .at) (loop .output)) (loop .desk) (suc (loop .k)) (loop .rest .now) (c .before .before .before .before .loop-test .left) ∙ sym (loop .inv .1 .1)) (c .before .before .put-end .ensures)
+    let at-put = c .before .before in
+    let at-test = at-put .before .before in
+    let loop = at-test .before .loop in
+    let ended = run-ends (from (loop .at) (loop .output)) (loop .desk) (suc (loop .k)) (loop .rest .now) (at-test .loop-test .left) in
+    came-same (ended ∙ sym (loop .inv .1 .1)) (at-put .put-end .ensures)
 
 pub run-lines-spec : {M : Type 1} → statement M
 run-lines-spec =

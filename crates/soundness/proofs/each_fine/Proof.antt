@@ -14,14 +14,23 @@ messages-fine-requires : tie.Need-messages-fine-requires
 messages-fine-requires c κs = search needs
 
 both-requires : tie.Need-both-requires
-both-requires c κs = search needs
+both-requires c κs = tt
 
 both-requires-2 : tie.Need-both-requires-2
-both-requires-2 c κs = search needs
+both-requires-2 c κs = tt
 
 returns : tie.Need-returns
 unfolding eachFine
-returns c = rw (c .both2 .ensures, c .before .both .ensures, c .before .before .messages-fine .ensures, c .before .before .before .lock-there .ensures, c .before .before .before .before .agents-fine .ensures)
+returns c =
+    let at-messages = c .before .before in
+    let at-lock = at-messages .before in
+    rw (
+      c .both2 .ensures,
+      c .before .both .ensures,
+      at-messages .messages-fine .ensures,
+      at-lock .lock-there .ensures,
+      at-lock .before .agents-fine .ensures,
+    )
 
 pub each-fine-spec : {M : Type 1} → statement M
 each-fine-spec =

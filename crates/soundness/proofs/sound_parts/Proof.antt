@@ -25,7 +25,7 @@ unfolding partsSound
 returns-2 c = rw (told-false (c .before .each-fine .ensures) (c .if2 .taken), and-false)
 
 number-room-requires : tie.Need-number-room-requires
-number-room-requires c κs = search needs
+number-room-requires c κs = tt
 
 book-fine-requires : tie.Need-book-fine-requires
 book-fine-requires c κs =
@@ -37,7 +37,7 @@ book-fine-requires c κs =
     (fit .messages-fit, (fit .handed-fit, senders-below _ _ _ _ _ _ _ _ (fit .agents-fit) each))
 
 both-requires : tie.Need-both-requires
-both-requires c κs = search needs
+both-requires c κs = tt
 
 returns-3 : tie.Need-returns-3
 unfolding partsSound

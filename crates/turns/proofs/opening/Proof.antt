@@ -16,7 +16,8 @@ code-number-requires c κs = search needs
 returns : tie.Need-returns
 returns c =
     let answer = c .before .before .«open» .result in
-    ap (λ (b : Bool). record { desk = record { opened = b; table = answer .table }; code = answer .code; number = answer .number }) (ap (λ n. eqb n 0) (c .code-number .ensures))
+    ap (λ (b : Bool). record { desk = record { opened = b; table = answer .table }; code = answer .code; number = answer .number })
+    (ap (λ n. eqb n 0) (c .code-number .ensures))
     ∙ ap openedBy (c .before .before .«open» .ensures)
 
 pub opening-spec : {M : Type 1} → statement M

@@ -20,13 +20,22 @@ turned-away-requires : tie.Need-turned-away-requires
 turned-away-requires c κs = search needs
 
 returns-2 : tie.Need-returns-2
-returns-2 c = c .turned-away .ensures ∙ not-open (c .before .before .before .before .before .before .args .desk) (c .before .before .before .before .line .given .0 .0) (c .before .before .before .before .line .given .1) (not-true (c .before .before .before .before .before .before .args .desk .opened) (c .before .if1 .taken))
+returns-2 c =
+    let at-line = c .before .before .before .before in
+    let desk = at-line .before .before .args .desk in
+    let line = at-line .line .given in
+    c .turned-away .ensures ∙ not-open desk (line .0 .0) (line .1) (not-true (desk .opened) (c .before .if1 .taken))
 
 step-requires : tie.Need-step-requires
 step-requires c κs = search needs
 
 returns-3 : tie.Need-returns-3
-returns-3 c = ap steppedBy (c .before .step .ensures) ∙ steps (c .before .before .before .before .before .before .before .before .args .desk) (c .before .before .before .before .before .before .line .given .0 .0) (c .before .before .before .before .before .before .line .given .1) (not-false (c .before .before .before .before .before .before .before .before .args .desk .opened) (c .before .before .before .if1 .left))
+returns-3 c =
+    let at-test = c .before .before .before in
+    let at-line = at-test .before .before .before in
+    let desk = at-line .before .before .args .desk in
+    let line = at-line .line .given in
+    ap steppedBy (c .before .step .ensures) ∙ steps desk (line .0 .0) (line .1) (not-false (desk .opened) (at-test .if1 .left))
 
 pub take-spec : {M : Type 1} → statement M
 take-spec =

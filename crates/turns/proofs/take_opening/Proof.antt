@@ -18,13 +18,21 @@ turned-away-requires-2 : tie.Need-turned-away-requires-2
 turned-away-requires-2 c κs = search needs
 
 returns-2 : tie.Need-returns-2
-returns-2 c = c .turned-away2 .ensures ∙ opened-again (c .before .before .before .before .before .args .desk) (c .before .before .before .line .given .0 .0) (c .before .before .before .line .given .1) (c .before .if1 .taken)
+returns-2 c =
+    let at-line = c .before .before .before in
+    let desk = at-line .before .before .args .desk in
+    let line = at-line .line .given in
+    c .turned-away2 .ensures ∙ opened-again desk (line .0 .0) (line .1) (c .before .if1 .taken)
 
 opening-requires : tie.Need-opening-requires
 opening-requires c κs = search needs
 
 returns-3 : tie.Need-returns-3
-returns-3 c = c .opening .ensures ∙ opens (c .before .before .before .before .before .args .desk) (c .before .before .before .line .given .0 .0) (c .before .before .before .line .given .1) (c .before .if1 .left)
+returns-3 c =
+    let at-line = c .before .before .before in
+    let desk = at-line .before .before .args .desk in
+    let line = at-line .line .given in
+    c .opening .ensures ∙ opens desk (line .0 .0) (line .1) (c .before .if1 .left)
 
 pub take-opening-spec : {M : Type 1} → statement M
 take-opening-spec =

@@ -38,10 +38,10 @@ array-copy-out-one : tie.Need-array-copy-out-one Inv-loop μ-loop Inv-loop2 μ-l
 array-copy-out-one c = search needs
 
 peer-of-requires : tie.Need-peer-of-requires Inv-loop μ-loop Inv-loop2 μ-loop2
-peer-of-requires c κs = search needs
+peer-of-requires c κs = tt
 
 agent-place-requires : tie.Need-agent-place-requires Inv-loop μ-loop Inv-loop2 μ-loop2
-agent-place-requires c κs = search needs
+agent-place-requires c κs = tt
 
 mul-other : tie.Need-mul-other Inv-loop μ-loop Inv-loop2 μ-loop2
 mul-other c = search needs
@@ -50,10 +50,10 @@ array-copy-out-other : tie.Need-array-copy-out-other Inv-loop μ-loop Inv-loop2 
 array-copy-out-other c = search needs
 
 agent-fine-requires : tie.Need-agent-fine-requires Inv-loop μ-loop Inv-loop2 μ-loop2
-agent-fine-requires c κs = search needs
+agent-fine-requires c κs = tt
 
 both-requires : tie.Need-both-requires Inv-loop μ-loop Inv-loop2 μ-loop2
-both-requires c κs = search needs
+both-requires c κs = tt
 
 add-i : tie.Need-add-i Inv-loop μ-loop Inv-loop2 μ-loop2
 add-i c = search needs
@@ -87,10 +87,10 @@ array-copy-out-past : tie.Need-array-copy-out-past Inv-loop μ-loop Inv-loop2 μ
 array-copy-out-past c = search needs
 
 is-empty-agent-requires : tie.Need-is-empty-agent-requires Inv-loop μ-loop Inv-loop2 μ-loop2
-is-empty-agent-requires c κs = search needs
+is-empty-agent-requires c κs = tt
 
 both-requires-2 : tie.Need-both-requires-2 Inv-loop μ-loop Inv-loop2 μ-loop2
-both-requires-2 c κs = search needs
+both-requires-2 c κs = tt
 
 add-j : tie.Need-add-j Inv-loop μ-loop Inv-loop2 μ-loop2
 add-j c = search needs
@@ -108,7 +108,7 @@ loop2-again c =
     (search needs)
 
 both-requires-3 : tie.Need-both-requires-3 Inv-loop μ-loop Inv-loop2 μ-loop2
-both-requires-3 c κs = search needs
+both-requires-3 c κs = tt
 
 returns : tie.Need-returns Inv-loop μ-loop Inv-loop2 μ-loop2
 unfolding agentRoom

@@ -11,7 +11,7 @@ log-runs-requires : tie.Need-log-runs-requires
 log-runs-requires c κs = search needs
 
 both-requires : tie.Need-both-requires
-both-requires c κs = search needs
+both-requires c κs = tt
 
 returns : tie.Need-returns
 unfolding bookFine

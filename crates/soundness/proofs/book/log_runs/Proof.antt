@@ -18,7 +18,9 @@ abbrev test : MailNo → Bool
 test x = eqb (x .0) 0
 
 abbrev Inv-loop : tie.InvT-loop
-Inv-loop messages handed status log seen₀ fine₀ i₀ seen fine i = (i ≤ handed) × (logRuns messages status log handed 0 noMarks ≡ (fine && logRuns messages status log (handed - i) i seen))
+Inv-loop messages handed status log seen₀ fine₀ i₀ seen fine i =
+    (i ≤ handed)
+    × (logRuns messages status log handed 0 noMarks ≡ (fine && logRuns messages status log (handed - i) i seen))
 
 abbrev μ-loop : tie.MeasureT-loop
 μ-loop messages handed status log seen₀ fine₀ i₀ seen fine i = handed - i
@@ -42,19 +44,19 @@ array-copy-out-entry : tie.Need-array-copy-out-entry Inv-loop μ-loop Inv-loop2 
 array-copy-out-entry c = search needs
 
 mail-place-requires : tie.Need-mail-place-requires Inv-loop μ-loop Inv-loop2 μ-loop2
-mail-place-requires c κs = search needs
+mail-place-requires c κs = tt
 
 array-read-opposite : tie.Need-array-read-opposite Inv-loop μ-loop Inv-loop2 μ-loop2
 array-read-opposite c = search needs
 
 opposite-requires : tie.Need-opposite-requires Inv-loop μ-loop Inv-loop2 μ-loop2
-opposite-requires c κs = search needs
+opposite-requires c κs = tt
 
 both-requires : tie.Need-both-requires Inv-loop μ-loop Inv-loop2 μ-loop2
-both-requires c κs = search needs
+both-requires c κs = tt
 
 both-requires-2 : tie.Need-both-requires-2 Inv-loop μ-loop Inv-loop2 μ-loop2
-both-requires-2 c κs = search needs
+both-requires-2 c κs = tt
 
 array-write-seen : tie.Need-array-write-seen Inv-loop μ-loop Inv-loop2 μ-loop2
 array-write-seen c = search needs
@@ -96,7 +98,7 @@ array-copy-out-past : tie.Need-array-copy-out-past Inv-loop μ-loop Inv-loop2 μ
 array-copy-out-past c = search needs
 
 both-requires-3 : tie.Need-both-requires-3 Inv-loop μ-loop Inv-loop2 μ-loop2
-both-requires-3 c κs = search needs
+both-requires-3 c κs = tt
 
 add-j : tie.Need-add-j Inv-loop μ-loop Inv-loop2 μ-loop2
 add-j c = search needs
@@ -115,10 +117,10 @@ marked-right-requires : tie.Need-marked-right-requires Inv-loop μ-loop Inv-loop
 marked-right-requires c κs = search needs
 
 both-requires-4 : tie.Need-both-requires-4 Inv-loop μ-loop Inv-loop2 μ-loop2
-both-requires-4 c κs = search needs
+both-requires-4 c κs = tt
 
 both-requires-5 : tie.Need-both-requires-5 Inv-loop μ-loop Inv-loop2 μ-loop2
-both-requires-5 c κs = search needs
+both-requires-5 c κs = tt
 
 returns : tie.Need-returns Inv-loop μ-loop Inv-loop2 μ-loop2
 unfolding logRoom

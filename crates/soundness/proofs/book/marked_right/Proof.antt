@@ -18,7 +18,9 @@ abbrev test : Stand → Bool
 test x = isQueued (x .status)
 
 abbrev Inv-loop : tie.InvT-loop
-Inv-loop messages status seen fine₀ i₀ fine i = (i ≤ messages) × (fine ≡ allBelow i (λ j. Bool·beq (getD seen j false) (isDelivered (statusIn status (mailNo j)))))
+Inv-loop messages status seen fine₀ i₀ fine i =
+    (i ≤ messages)
+    × (fine ≡ allBelow i (λ j. Bool·beq (getD seen j false) (isDelivered (statusIn status (mailNo j)))))
 
 abbrev μ-loop : tie.MeasureT-loop
 μ-loop messages status seen fine₀ i₀ fine i = messages - i
@@ -43,19 +45,19 @@ array-copy-out-stand : tie.Need-array-copy-out-stand Inv-loop μ-loop Inv-loop2 
 array-copy-out-stand c = search needs
 
 status-kind-requires : tie.Need-status-kind-requires Inv-loop μ-loop Inv-loop2 μ-loop2
-status-kind-requires c κs = search needs
+status-kind-requires c κs = tt
 
 either-requires : tie.Need-either-requires Inv-loop μ-loop Inv-loop2 μ-loop2
-either-requires c κs = search needs
+either-requires c κs = tt
 
 array-read-same-flag : tie.Need-array-read-same-flag Inv-loop μ-loop Inv-loop2 μ-loop2
 array-read-same-flag c = search needs
 
 same-flag-requires : tie.Need-same-flag-requires Inv-loop μ-loop Inv-loop2 μ-loop2
-same-flag-requires c κs = search needs
+same-flag-requires c κs = tt
 
 both-requires : tie.Need-both-requires Inv-loop μ-loop Inv-loop2 μ-loop2
-both-requires c κs = search needs
+both-requires c κs = tt
 
 add-i : tie.Need-add-i Inv-loop μ-loop Inv-loop2 μ-loop2
 add-i c = search needs
@@ -83,10 +85,10 @@ array-copy-out-past : tie.Need-array-copy-out-past Inv-loop μ-loop Inv-loop2 μ
 array-copy-out-past c = search needs
 
 status-kind-requires-2 : tie.Need-status-kind-requires-2 Inv-loop μ-loop Inv-loop2 μ-loop2
-status-kind-requires-2 c κs = search needs
+status-kind-requires-2 c κs = tt
 
 both-requires-2 : tie.Need-both-requires-2 Inv-loop μ-loop Inv-loop2 μ-loop2
-both-requires-2 c κs = search needs
+both-requires-2 c κs = tt
 
 add-j : tie.Need-add-j Inv-loop μ-loop Inv-loop2 μ-loop2
 add-j c = search needs
@@ -104,7 +106,7 @@ loop2-again c =
     (search needs)
 
 both-requires-3 : tie.Need-both-requires-3 Inv-loop μ-loop Inv-loop2 μ-loop2
-both-requires-3 c κs = search needs
+both-requires-3 c κs = tt
 
 returns : tie.Need-returns Inv-loop μ-loop Inv-loop2 μ-loop2
 unfolding delivered statusRoom

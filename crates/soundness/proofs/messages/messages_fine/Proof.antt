@@ -20,7 +20,8 @@ abbrev test : AgentNo → Bool
 test x = eqb (x .0) 0
 
 abbrev Inv-loop : tie.InvT-loop
-Inv-loop agents messages lock agent sender addressee status i₀ i = (i ≤ messages) × (true ≡ allBelow i (messageFine agents lock agent sender addressee status))
+Inv-loop agents messages lock agent sender addressee status i₀ i = (i ≤ messages) ×
+    (true ≡ allBelow i (messageFine agents lock agent sender addressee status))
 
 abbrev μ-loop : tie.MeasureT-loop
 μ-loop agents messages lock agent sender addressee status i₀ i = messages - i
@@ -32,7 +33,8 @@ abbrev μ-loop2 : tie.MeasureT-loop2
 μ-loop2 agents messages sender addressee i senders₀ j₀ senders j = 512 - j
 
 abbrev Inv-loop3 : tie.InvT-loop3
-Inv-loop3 agents messages addressee i senders j addressees₀ k₀ addressees k = allOf test (drop messages addressee) ≡ (addressees && allOf test (drop k addressee))
+Inv-loop3 agents messages addressee i senders j addressees₀ k₀ addressees k = allOf test (drop messages addressee) ≡
+    (addressees && allOf test (drop k addressee))
 
 abbrev μ-loop3 : tie.MeasureT-loop3
 μ-loop3 agents messages addressee i senders j addressees₀ k₀ addressees k = 512 - k
@@ -63,10 +65,10 @@ array-copy-out-stand : tie.Need-array-copy-out-stand Inv-loop μ-loop Inv-loop2 
 array-copy-out-stand c = search needs
 
 agent-place-requires : tie.Need-agent-place-requires Inv-loop μ-loop Inv-loop2 μ-loop2 Inv-loop3 μ-loop3
-agent-place-requires c κs = search needs
+agent-place-requires c κs = tt
 
 agent-place-requires-2 : tie.Need-agent-place-requires-2 Inv-loop μ-loop Inv-loop2 μ-loop2 Inv-loop3 μ-loop3
-agent-place-requires-2 c κs = search needs
+agent-place-requires-2 c κs = tt
 
 mul-from : tie.Need-mul-from Inv-loop μ-loop Inv-loop2 μ-loop2 Inv-loop3 μ-loop3
 mul-from c = search needs
@@ -81,7 +83,7 @@ array-copy-out-to : tie.Need-array-copy-out-to Inv-loop μ-loop Inv-loop2 μ-loo
 array-copy-out-to c = search needs
 
 parties-fine-requires : tie.Need-parties-fine-requires Inv-loop μ-loop Inv-loop2 μ-loop2 Inv-loop3 μ-loop3
-parties-fine-requires c κs = search needs
+parties-fine-requires c κs = tt
 
 add-i : tie.Need-add-i Inv-loop μ-loop Inv-loop2 μ-loop2 Inv-loop3 μ-loop3
 add-i c = search needs
@@ -118,48 +120,46 @@ read c =
     let to = at-places .agent-place2 in
     let start = place c .before in
     let args = start .args in
-    message-read (args .agents) (args .lock) (args .t4) (args .t5) (args .t6) (args .t7) (place c .loop .i) (from .result) (to .result) (start .pre .0)
+    message-read (args .agents) (args .lock) (args .t4) (args .t5) (args .t6) (args .t7) (place c .loop .i) (from .result) (to .result)
+    (start .pre .0)
     (from .ensures .1)
     (to .ensures .1)
 
 returns : tie.Need-returns Inv-loop μ-loop Inv-loop2 μ-loop2 Inv-loop3 μ-loop3
 returns c =
-    let l = place (c .before) in
-    let parties = c .before .parties-fine in
-    fails-first _ (below-off (tests l) (l .before .args .messages) (l .loop .i) (search needs)
-    (rw (← read (c .before), sym (parties .ensures) ∙ not-true (parties .result) (c .if1 .taken))))
+    fails-first _ (below-off (tests (place (c .before))) (place (c .before) .before .args .messages) (place (c .before) .loop .i) (search needs)
+    (rw (
+      ← read (c .before),
+      sym (c .before .parties-fine .ensures) ∙ not-true (c .before .parties-fine .result) (c .if1 .taken),
+    )))
 
 status-right-requires : tie.Need-status-right-requires Inv-loop μ-loop Inv-loop2 μ-loop2 Inv-loop3 μ-loop3
-status-right-requires c κs = search needs
+status-right-requires c κs = tt
 
 returns-2 : tie.Need-returns-2 Inv-loop μ-loop Inv-loop2 μ-loop2 Inv-loop3 μ-loop3
 returns-2 c =
-    let at-parties = c .before .before .before in
-    let l = place at-parties in
-    let parties = at-parties .parties-fine in
-    let status = c .before .status-right in
-    fails-first _ (below-off (tests l) (l .before .args .messages) (l .loop .i) (search needs)
+    fails-first _ (below-off (tests (place (c .before .before .before))) (place (c .before .before .before) .before .args .messages)
+    (place (c .before .before .before) .loop .i) (search needs)
     (rw (
-      ← read at-parties,
-      sym (parties .ensures) ∙ not-false (parties .result) (c .before .before .if1 .left),
-      sym (status .ensures) ∙ not-true (status .result) (c .if2 .taken),
+      ← read (c .before .before .before),
+      sym (c .before .before .before .parties-fine .ensures)
+          ∙ not-false (c .before .before .before .parties-fine .result) (c .before .before .if1 .left),
+      sym (c .before .status-right .ensures) ∙ not-true (c .before .status-right .result) (c .if2 .taken),
     )))
 
 loop-again : tie.Need-loop-again Inv-loop μ-loop Inv-loop2 μ-loop2 Inv-loop3 μ-loop3
-loop-again c =
-    let at-parties = c .before .before .before in
-    let l = place at-parties in
-    let parties = at-parties .parties-fine in
-    let status = c .before .status-right in (
-      search needs,
-      below-on (tests l) (l .loop .i) true true true (l .loop .inv .1)
-          (rw (
-            ← read at-parties,
-            sym (parties .ensures) ∙ not-false (parties .result) (c .before .before .if1 .left),
-            sym (status .ensures) ∙ not-false (status .result) (c .if2 .left),
-          ))
-          refl,
-    )
+loop-again c = (
+  search needs,
+  below-on (tests (place (c .before .before .before))) (place (c .before .before .before) .loop .i) true true true
+      (place (c .before .before .before) .loop .inv .1)
+      (rw (
+        ← read (c .before .before .before),
+        sym (c .before .before .before .parties-fine .ensures)
+            ∙ not-false (c .before .before .before .parties-fine .result) (c .before .before .if1 .left),
+        sym (c .before .status-right .ensures) ∙ not-false (c .before .status-right .result) (c .if2 .left),
+      ))
+      refl,
+)
 
 loop2-holds : tie.Need-loop2-holds Inv-loop μ-loop Inv-loop2 μ-loop2 Inv-loop3 μ-loop3
 loop2-holds c = refl
@@ -171,7 +171,7 @@ array-copy-out-past : tie.Need-array-copy-out-past Inv-loop μ-loop Inv-loop2 μ
 array-copy-out-past c = search needs
 
 both-requires : tie.Need-both-requires Inv-loop μ-loop Inv-loop2 μ-loop2 Inv-loop3 μ-loop3
-both-requires c κs = search needs
+both-requires c κs = tt
 
 add-j : tie.Need-add-j Inv-loop μ-loop Inv-loop2 μ-loop2 Inv-loop3 μ-loop3
 add-j c = search needs
@@ -196,7 +196,7 @@ array-copy-out-past-2 : tie.Need-array-copy-out-past-2 Inv-loop μ-loop Inv-loop
 array-copy-out-past-2 c = search needs
 
 both-requires-2 : tie.Need-both-requires-2 Inv-loop μ-loop Inv-loop2 μ-loop2 Inv-loop3 μ-loop3
-both-requires-2 c κs = search needs
+both-requires-2 c κs = tt
 
 add-k : tie.Need-add-k Inv-loop μ-loop Inv-loop2 μ-loop2 Inv-loop3 μ-loop3
 add-k c = search needs
@@ -209,10 +209,11 @@ loop3-again c =
     let at-loop3 = c .before .before .before .before in
     let args = at-loop3 .before .before .before .before .before .args in
     let loop3 = at-loop3 .loop3 in
-    room-on test (args .t6) (agentNo 0) (args .messages) (loop3 .k) (loop3 .addressees) (c .both2 .result) (loop3 .inv) (c .both2 .ensures) (search needs)
+    room-on test (args .t6) (agentNo 0) (args .messages) (loop3 .k) (loop3 .addressees) (c .both2 .result) (loop3 .inv) (c .both2 .ensures)
+    (search needs)
 
 both-requires-3 : tie.Need-both-requires-3 Inv-loop μ-loop Inv-loop2 μ-loop2 Inv-loop3 μ-loop3
-both-requires-3 c κs = search needs
+both-requires-3 c κs = tt
 
 returns-3 : tie.Need-returns-3 Inv-loop μ-loop Inv-loop2 μ-loop2 Inv-loop3 μ-loop3
 unfolding partyRoom

@@ -30,7 +30,7 @@ array-read-one : tie.Need-array-read-one Inv-loop μ-loop
 array-read-one c = search needs
 
 both-requires : tie.Need-both-requires Inv-loop μ-loop
-both-requires c κs = search needs
+both-requires c κs = tt
 
 add-i : tie.Need-add-i Inv-loop μ-loop
 add-i c = search needs

@@ -31,7 +31,9 @@ returns c =
     let site = phase .before .before .before .before in
     let key = site .before .before .before .before in
     let args = key .before .before .before .before .before .args in (
-      put-same (agent-parts (args .i) (args .one)) (put-then (key .put-numbered .ensures .0) (put-then (site .put-ended .ensures .0) (put-then (phase .put-phase .ensures .0) (map .put-map .ensures .0)))),
+      put-same (agent-parts (args .i) (args .one))
+          (put-then (key .put-numbered .ensures .0)
+          (put-then (site .put-ended .ensures .0) (put-then (phase .put-phase .ensures .0) (map .put-map .ensures .0)))),
       omega (arith, key .put-numbered .ensures .1, site .put-ended .ensures .1, phase .put-phase .ensures .1, map .put-map .ensures .1),
     )
 

@@ -38,8 +38,15 @@ returns c =
     let messages = handed .before .before .before .before .before in
     let agents = messages .before .before .before .before .before in
     let sites = agents .before .before .before .before .before in (
-      put-then (sites .put-numbered .ensures .0) (put-then (agents .put-numbered2 .ensures .0) (put-then (messages .put-numbered3 .ensures .0) (handed .put-numbered4 .ensures .0))),
-      omega (arith, sites .put-numbered .ensures .1, agents .put-numbered2 .ensures .1, messages .put-numbered3 .ensures .1, handed .put-numbered4 .ensures .1),
+      put-then (sites .put-numbered .ensures .0)
+          (put-then (agents .put-numbered2 .ensures .0) (put-then (messages .put-numbered3 .ensures .0) (handed .put-numbered4 .ensures .0))),
+      omega (
+        arith,
+        sites .put-numbered .ensures .1,
+        agents .put-numbered2 .ensures .1,
+        messages .put-numbered3 .ensures .1,
+        handed .put-numbered4 .ensures .1,
+      ),
     )
 
 pub put-counts-spec : {M : Type 1} → statement M

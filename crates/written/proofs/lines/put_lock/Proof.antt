@@ -38,21 +38,27 @@ same-length c = search needs
 
 returns : tie.Need-returns
 returns c =
-    (put-of lockLine (c .before .before .before .before .before .enum-told .given .1) (c .before .before .put-word .ensures), omega (arith, c .before .before .put-word .ensures .place))
+    let told = c .before .before .before .before .before .enum-told .given .1 in
+    let put = c .before .before .put-word in
+    (put-of lockLine told (put .ensures), omega (arith, put .ensures .place))
 
 same-length-2 : tie.Need-same-length-2
 same-length-2 c = search needs
 
 returns-2 : tie.Need-returns-2
 returns-2 c =
-    (put-of lockLine (c .before .before .before .before .before .before .lock .given .1) (c .before .before .put-numbered .ensures .0), omega (arith, c .before .before .put-numbered .ensures .1))
+    let told = c .before .before .before .before .before .before .lock .given .1 in
+    let put = c .before .before .put-numbered in
+    (put-of lockLine told (put .ensures .0), omega (arith, put .ensures .1))
 
 same-length-3 : tie.Need-same-length-3
 same-length-3 c = search needs
 
 returns-3 : tie.Need-returns-3
 returns-3 c =
-    (put-of lockLine (c .before .before .before .before .before .before .lock2 .given .1) (c .before .before .put-numbered2 .ensures .0), omega (arith, c .before .before .put-numbered2 .ensures .1))
+    let told = c .before .before .before .before .before .before .lock2 .given .1 in
+    let put = c .before .before .put-numbered2 in
+    (put-of lockLine told (put .ensures .0), omega (arith, put .ensures .1))
 
 pub put-lock-spec : {M : Type 1} → statement M
 put-lock-spec =

@@ -26,14 +26,18 @@ same-length c = search needs
 
 returns : tie.Need-returns
 returns c =
-    (put-of mapPart (c .before .before .before .before .before .enum-told .given .1) (c .before .before .put-word .ensures), omega (arith, c .before .before .put-word .ensures .place))
+    let told = c .before .before .before .before .before .enum-told .given .1 in
+    let put = c .before .before .put-word in
+    (put-of mapPart told (put .ensures), omega (arith, put .ensures .place))
 
 same-length-2 : tie.Need-same-length-2
 same-length-2 c = search needs
 
 returns-2 : tie.Need-returns-2
 returns-2 c =
-    (put-of mapPart (c .before .before .before .before .before .map .given .1) (c .before .before .put-ended .ensures .0), omega (arith, c .before .before .put-ended .ensures .1))
+    let told = c .before .before .before .before .before .map .given .1 in
+    let put = c .before .before .put-ended in
+    (put-of mapPart told (put .ensures .0), omega (arith, put .ensures .1))
 
 pub put-map-spec : {M : Type 1} → statement M
 put-map-spec =

@@ -39,8 +39,20 @@ returns c =
     let sender = number .before .before .before .before in
     let key = sender .before .before .before .before in
     let args = key .before .before .before .before .before .before .args in (
-      put-same (message-parts (args .i) (args .one)) (put-then (key .put-numbered .ensures .0) (put-then (sender .put-ended .ensures .0) (put-then (number .put-ended2 .ensures .0) (put-then (addressee .put-ended3 .ensures .0) (put-then (value .put-ended4 .ensures .0) (status .put-status .ensures .0)))))),
-      omega (arith, key .put-numbered .ensures .1, sender .put-ended .ensures .1, number .put-ended2 .ensures .1, addressee .put-ended3 .ensures .1, value .put-ended4 .ensures .1, status .put-status .ensures .1),
+      put-same (message-parts (args .i) (args .one))
+          (put-then (key .put-numbered .ensures .0)
+          (put-then (sender .put-ended .ensures .0)
+          (put-then (number .put-ended2 .ensures .0)
+          (put-then (addressee .put-ended3 .ensures .0) (put-then (value .put-ended4 .ensures .0) (status .put-status .ensures .0)))))),
+      omega (
+        arith,
+        key .put-numbered .ensures .1,
+        sender .put-ended .ensures .1,
+        number .put-ended2 .ensures .1,
+        addressee .put-ended3 .ensures .1,
+        value .put-ended4 .ensures .1,
+        status .put-status .ensures .1,
+      ),
     )
 
 pub put-message-spec : {M : Type 1} → statement M

@@ -56,35 +56,45 @@ same-length c = search needs
 
 returns : tie.Need-returns
 returns c =
-    (put-of statusPart (c .before .before .before .before .before .enum-told .given .1) (c .before .before .put-word .ensures), omega (arith, c .before .before .put-word .ensures .place))
+    let told = c .before .before .before .before .before .enum-told .given .1 in
+    let put = c .before .before .put-word in
+    (put-of statusPart told (put .ensures), omega (arith, put .ensures .place))
 
 same-length-2 : tie.Need-same-length-2
 same-length-2 c = search needs
 
 returns-2 : tie.Need-returns-2
 returns-2 c =
-    (put-of statusPart (c .before .before .before .before .before .before .status .given .1) (c .before .before .put-numbered .ensures .0), omega (arith, c .before .before .put-numbered .ensures .1))
+    let told = c .before .before .before .before .before .before .status .given .1 in
+    let put = c .before .before .put-numbered in
+    (put-of statusPart told (put .ensures .0), omega (arith, put .ensures .1))
 
 same-length-3 : tie.Need-same-length-3
 same-length-3 c = search needs
 
 returns-3 : tie.Need-returns-3
 returns-3 c =
-    (put-of statusPart (c .before .before .before .before .before .enum-told2 .given .1) (c .before .before .put-word2 .ensures), omega (arith, c .before .before .put-word2 .ensures .place))
+    let told = c .before .before .before .before .before .enum-told2 .given .1 in
+    let put = c .before .before .put-word2 in
+    (put-of statusPart told (put .ensures), omega (arith, put .ensures .place))
 
 same-length-4 : tie.Need-same-length-4
 same-length-4 c = search needs
 
 returns-4 : tie.Need-returns-4
 returns-4 c =
-    (put-of statusPart (c .before .before .before .before .before .enum-told3 .given .1) (c .before .before .put-word3 .ensures), omega (arith, c .before .before .put-word3 .ensures .place))
+    let told = c .before .before .before .before .before .enum-told3 .given .1 in
+    let put = c .before .before .put-word3 in
+    (put-of statusPart told (put .ensures), omega (arith, put .ensures .place))
 
 same-length-5 : tie.Need-same-length-5
 same-length-5 c = search needs
 
 returns-5 : tie.Need-returns-5
 returns-5 c =
-    (put-of statusPart (c .before .before .before .before .before .enum-told4 .given .1) (c .before .before .put-word4 .ensures), omega (arith, c .before .before .put-word4 .ensures .place))
+    let told = c .before .before .before .before .before .enum-told4 .given .1 in
+    let put = c .before .before .put-word4 in
+    (put-of statusPart told (put .ensures), omega (arith, put .ensures .place))
 
 pub put-status-spec : {M : Type 1} → statement M
 put-status-spec =

@@ -26,8 +26,10 @@ shared-slice-read-byte c = search needs
 
 put-byte-requires : tie.Need-put-byte-requires Inv-loop μ-loop
 put-byte-requires c κs =
-    omega
-    (arith, c .before .before .before .loop .inv .1 .place, length-take (c .before .before .before .loop .i) (now (c .before .before .before .before .before .before .args .word)))
+    let at-loop = c .before .before .before in
+    let args = at-loop .before .before .before .args in
+    let loop = at-loop .loop in
+    omega (arith, loop .inv .1 .place, length-take (loop .i) (now (args .word)))
 
 add-i : tie.Need-add-i Inv-loop μ-loop
 add-i c = omega arith

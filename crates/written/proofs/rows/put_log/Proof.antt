@@ -40,8 +40,11 @@ loop-less c = omega arith
 loop-again : tie.Need-loop-again Inv-loop μ-loop
 loop-again c =
     let loop = c .before .before .before .before .before .before in
-    let put = c .before .before .put-entry .ensures in
-    (omega arith, rows-more (logRow (loop .before .before .args .t4)) (loop .loop .i) (loop .loop .inv .1) (put .0), omega (arith, put .1, loop .loop .inv .2))
+    let put = c .before .before .put-entry .ensures in (
+      omega arith,
+      rows-more (logRow (loop .before .before .args .t4)) (loop .loop .i) (loop .loop .inv .1) (put .0),
+      omega (arith, put .1, loop .loop .inv .2),
+    )
 
 same-length : tie.Need-same-length Inv-loop μ-loop
 same-length c = put-length (c .before .loop .inv .1)
