@@ -31,7 +31,7 @@ use Rattle.order.specs.Marks.{marksOf, tableAfter}
 use Rattle.order.specs.Operations.{Taken}
 use Rattle.order.specs.Settled.{timesIn, Waiting, NotYet, InPlace, MailSettled, MapSettled}
 use Rattle.order.proofs.BoardLaws.{logged-there}
-use Rattle.order.proofs.Running.{reached}
+use Rattle.order.proofs.AlongSteps.{reached}
 use Rattle.order.proofs.Inboxes.{countIn, count-places, in-counted, from-log, in-inbox, times-in}
 
 module _ (t : State) (g : Good t) where

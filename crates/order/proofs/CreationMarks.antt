@@ -17,7 +17,7 @@ use Rattle.rules.specs.declared.State.{State}
 use Rattle.records.specs.Limits.{mostAgents}
 use Rattle.rules.specs.Holding.{IsAgent, siteOf, phaseOf, nextAgent, withNewAgent}
 use Rattle.rules.specs.Steps.{toPhase}
-use Rattle.preservation.proofs.Places.{first, second, neither}
+use Rattle.preservation.proofs.AfterChange.{first, second, neither}
 use Rattle.preservation.proofs.Locking.{never}
 use Rattle.preservation.proofs.Greet
 use Rattle.preservation.proofs.Greet.{greet-good}

@@ -14,7 +14,7 @@ use Rattle.order.specs.Operations.{Operation, creation, move, message, n
 use Rattle.order.proofs.ListLaws.{in-left, in-last, in-snoc, distinct-snoc, before-left, before-last, in-map, map-snoc}
 use Rattle.order.proofs.MarkLaws.{more, at-last, begun-most}
 use Rattle.order.proofs.Links.{CreationLinks, MailLinks, New}
-use Rattle.order.proofs.Places.{begun-then, effect-old, effect-below, begins-below, begins-back, effect-back, over-back}
+use Rattle.order.proofs.EarlierPlaces.{begun-then, effect-old, effect-below, begins-below, begins-back, effect-back, over-back}
 
 -- what is stated of the order, for the marks so far
 pub record Ordered (first : State) (ms : List Mark) (order : List Operation) : Type 0 where

@@ -16,7 +16,7 @@ use Rattle.records.specs.Messages.{itemOf, isDelivered}
 use Rattle.rules.specs.declared.State.{State}
 use Rattle.rules.specs.Holding.{IsMessage, messageAt, statusOf, logOf, withStatus, withLogged}
 use Rattle.rules.specs.Steps.{addresseeOf}
-use Rattle.preservation.proofs.Places.{Seen, changed, kept}
+use Rattle.preservation.proofs.AfterChange.{Seen, changed, kept}
 use Rattle.preservation.proofs.Locking.{never}
 use Rattle.preservation.proofs.OneMessage.{status-now}
 use Rattle.preservation.proofs.Hand.{log-shorter, hand-good}
@@ -27,7 +27,7 @@ use Rattle.order.specs.Operations.{Operation, creation, move, message, n
 use Rattle.order.proofs.MarkLaws.{more, at-last, at-snoc}
 use Rattle.order.proofs.Links.{New}
 use Rattle.order.proofs.LinkSteps.{mail-on}
-use Rattle.order.proofs.Places.{taken-old, taken-there}
+use Rattle.order.proofs.EarlierPlaces.{taken-old, taken-there}
 use Rattle.order.proofs.BoardLaws.{board-handed}
 use Rattle.order.proofs.Invariant.{Inv, inv-effect, new-plain, creations-same, move-same}
 use Rattle.order.proofs.MailMarks.{still-closed, status-is}

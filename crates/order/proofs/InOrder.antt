@@ -15,7 +15,7 @@ use Rattle.preservation.proofs.Opening.{open-good}
 use Rattle.order.specs.Marks.{tableAfter}
 use Rattle.order.specs.Boards.{Board}
 use Rattle.order.specs.Demand.{AllInOrder}
-use Rattle.order.proofs.Running.{reached}
+use Rattle.order.proofs.AlongSteps.{reached}
 use Rattle.order.proofs.AllSettled.{mail-settled, map-settled}
 
 pub in-order : (t : State) → Shaped t → Sound t → (ss : List Step) → AllInOrder t ss

@@ -16,7 +16,7 @@ use Rattle.records.specs.Numbers.{agentNo, sameAgent}
 use Rattle.records.specs.Agents.{withPhase, movedTo}
 use Rattle.rules.specs.declared.State.{State}
 use Rattle.rules.specs.Holding.{IsAgent, agentAt, siteOf, phaseOf, withAgent}
-use Rattle.preservation.proofs.Places.{Seen, changed, kept, seen-agent}
+use Rattle.preservation.proofs.AfterChange.{Seen, changed, kept, seen-agent}
 use Rattle.preservation.proofs.Locking.{never}
 use Rattle.preservation.proofs.OneAgent.{agent-place}
 use Rattle.preservation.proofs.Moves.{leap-good}
@@ -26,7 +26,7 @@ use Rattle.order.specs.Operations.{Operation, creation, move, message, t
 use Rattle.order.proofs.MarkLaws.{more, at-last, at-snoc}
 use Rattle.order.proofs.Links.{PendingTo, MoveLink}
 use Rattle.order.proofs.LinkSteps.{move-on}
-use Rattle.order.proofs.Places.{begun-then, counted-back, targets-old, targets-back}
+use Rattle.order.proofs.EarlierPlaces.{begun-then, counted-back, targets-old, targets-back}
 use Rattle.order.proofs.BoardLaws.{inboxes-same, board-moved}
 use Rattle.order.proofs.Invariant.{Inv, inv-effect, new-plain, creations-same, mail-same}
 use Rattle.order.proofs.OneAgentMarks.{moves-one}

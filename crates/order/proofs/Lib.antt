@@ -1,7 +1,7 @@
 pub mod ListLaws
 pub mod MarkLaws
 pub mod Links
-pub mod Places
+pub mod EarlierPlaces
 pub mod Extending
 pub mod LinkSteps
 pub mod BoardLaws
@@ -12,7 +12,7 @@ pub mod LeapMark
 pub mod MailMarks
 pub mod SendMark
 pub mod HandMark
-pub mod Running
+pub mod AlongSteps
 pub mod InOrder
 pub mod Example
 pub mod Inboxes

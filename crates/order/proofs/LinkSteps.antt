@@ -25,7 +25,7 @@ use Rattle.order.specs.Marks.{Mark, nothing, creates, greets, asks, leav
 use Rattle.order.specs.Operations.{Targets, Taken}
 use Rattle.order.proofs.MarkLaws.{more, at-last, at-snoc, begun-most, begun-other, begun-asked, begun-less}
 use Rattle.order.proofs.Links.{CreationLinks, PendingTo, MoveLink, MailLinks}
-use Rattle.order.proofs.Places.{begun-then, begun-old, targets-old, targets-back, taken-old, taken-back}
+use Rattle.order.proofs.EarlierPlaces.{begun-then, begun-old, targets-old, targets-back, taken-old, taken-back}
 
 pub creations-on :
     (ms : List Mark) (x : Mark) (t t′ : State)

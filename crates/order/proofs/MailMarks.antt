@@ -17,7 +17,7 @@ use Rattle.records.specs.Messages.{isDelivered}
 use Rattle.rules.specs.declared.State.{State}
 use Rattle.rules.specs.Holding.{IsMessage, mapOf, statusOf, lockOf, withStatus, withLock}
 use Rattle.rules.specs.Steps.{addresseeOf}
-use Rattle.preservation.proofs.Places.{Seen, changed, kept}
+use Rattle.preservation.proofs.AfterChange.{Seen, changed, kept}
 use Rattle.preservation.proofs.Locking.{never}
 use Rattle.preservation.proofs.OneAgent.{Good}
 use Rattle.preservation.proofs.OneMessage.{status-now}

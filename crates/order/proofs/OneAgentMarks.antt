@@ -20,7 +20,7 @@ use Rattle.records.specs.Locks.{holding}
 use Rattle.rules.specs.declared.State.{State}
 use Rattle.rules.specs.Holding.{IsAgent, IsSite, agentAt, siteOf, phaseOf, lockOf, withAgent, withLock}
 use Rattle.rules.specs.Steps.{toPhase}
-use Rattle.preservation.proofs.Places.{Seen, changed, kept, seen-agent}
+use Rattle.preservation.proofs.AfterChange.{Seen, changed, kept, seen-agent}
 use Rattle.preservation.proofs.Locking.{never}
 use Rattle.preservation.proofs.OneAgent.{Good, agent-place}
 use Rattle.preservation.proofs.Moves.{ask-good, grant-good, book-good, settle-good}

@@ -17,7 +17,7 @@ use Rattle.rules.specs.declared.State.{State}
 use Rattle.records.specs.Limits.{mostMessages}
 use Rattle.rules.specs.Holding.{IsAgent, IsMessage, phaseOf, messageAt, nextMessage, withNewMessage}
 use Rattle.rules.specs.Steps.{sentBy, newMessage}
-use Rattle.preservation.proofs.Places.{Seen, changed, kept, seen-message}
+use Rattle.preservation.proofs.AfterChange.{Seen, changed, kept, seen-message}
 use Rattle.preservation.proofs.Families.{ChildOf}
 use Rattle.preservation.proofs.Locking.{never}
 use Rattle.preservation.proofs.Send.{send-good}

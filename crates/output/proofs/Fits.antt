@@ -19,7 +19,7 @@ use Rattle.rules.specs.Steps.{opened, newMessage, openOf, stepOf}
 use Rattle.table.specs.declared.Table.{Table}
 use Rattle.table.specs.Face.{openTable, stepTable}
 use Rattle.rules.proofs.TestRuns.{no-counts}
-use Rattle.preservation.proofs.Places.{Seen, changed, kept, seen-message}
+use Rattle.preservation.proofs.AfterChange.{Seen, changed, kept, seen-message}
 use Rattle.preservation.proofs.Outcomes.{Went, spawned, asked, sent, enrolled, greeted, granted, leapt, booked, settled, forwarded, handed, lost, closed, Outcome, stayed, went, step-outcome}
 use Rattle.preservation.proofs.Refusals.{number-within}
 use Rattle.preservation.proofs.Keeps.{step-keeps}

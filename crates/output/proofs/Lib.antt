@@ -2,5 +2,5 @@ pub mod Printed
 pub mod Values
 pub mod Fits
 pub mod Room
-pub mod InOrder
+pub mod PrintedInOrder
 pub mod Called

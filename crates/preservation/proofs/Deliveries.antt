@@ -17,7 +17,7 @@ use Rattle.rules.specs.Holding.{IsAgent, IsMessage, phaseOf, siteOf, mapOf, sta
 use Rattle.rules.specs.Soundness.{LockRight, OutToAddressee, NoneLost, LogExact}
 use Rattle.rules.specs.Steps.{addresseeOf}
 use Rattle.records.proofs.ReaderLaws.{delivered-is, is-delivered}
-use Rattle.preservation.proofs.Places.{Seen, changed, kept}
+use Rattle.preservation.proofs.AfterChange.{Seen, changed, kept}
 use Rattle.preservation.proofs.Locking.{never}
 use Rattle.preservation.proofs.OneAgent.{Good, lock-shaped}
 use Rattle.preservation.proofs.MailSteps.{mailOf, mail-sound}

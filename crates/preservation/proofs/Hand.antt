@@ -21,7 +21,7 @@ use Rattle.records.proofs.PlaceLaws.{count-alike, count-hit, count-miss}
 use Rattle.records.proofs.ReaderLaws.{delivered-is, is-delivered}
 use Rattle.preservation.proofs.Counting.{count-none, fewer}
 use Rattle.preservation.proofs.Shapes.{shaped-log}
-use Rattle.preservation.proofs.Places.{Seen, changed, kept, seen-entry}
+use Rattle.preservation.proofs.AfterChange.{Seen, changed, kept, seen-entry}
 use Rattle.preservation.proofs.Locking.{never}
 use Rattle.preservation.proofs.OneAgent.{Good}
 use Rattle.preservation.proofs.MailSteps.{mailOf, mail-sound}

@@ -1,5 +1,5 @@
 pub mod Tested
-pub mod Places
+pub mod AfterChange
 pub mod Counting
 pub mod Families
 pub mod AgentSteps

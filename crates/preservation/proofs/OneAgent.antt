@@ -19,7 +19,7 @@ use Rattle.rules.specs.declared.State.{State}
 use Rattle.rules.specs.Holding.{Shaped, IsAgent, IsMessage, agentAt, siteOf, statusOf, messageAt, lockOf, withAgent, withLock}
 use Rattle.rules.specs.Soundness.{Sound, LockRight}
 use Rattle.preservation.proofs.Shapes.{shaped-agents, shaped-held}
-use Rattle.preservation.proofs.Places.{Seen, changed, kept, seen-agent}
+use Rattle.preservation.proofs.AfterChange.{Seen, changed, kept, seen-agent}
 use Rattle.preservation.proofs.Families.{Kin, kin-self, kin-families}
 use Rattle.preservation.proofs.AgentSteps.{MovingIn, not-moving, moving-as, Alone, alone, agents-sound}
 use Rattle.preservation.proofs.Locking.{Wants, lock-same, held-right, lock-right, lock-left, lock-taken, lock-freed}

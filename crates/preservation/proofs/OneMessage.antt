@@ -19,7 +19,7 @@ use Rattle.rules.specs.declared.State.{State}
 use Rattle.rules.specs.Holding.{Shaped, IsMessage, messageAt, statusOf, lockOf, withStatus, withLock}
 use Rattle.rules.specs.Soundness.{LockRight}
 use Rattle.preservation.proofs.Shapes.{shaped-messages}
-use Rattle.preservation.proofs.Places.{Seen, changed, kept, withStand, seen-status}
+use Rattle.preservation.proofs.AfterChange.{Seen, changed, kept, withStand, seen-status}
 use Rattle.preservation.proofs.Locking.{Wants, lock-same, held-right, lock-right, lock-left, lock-taken, lock-freed}
 use Rattle.preservation.proofs.OneAgent.{Good}
 

@@ -21,7 +21,7 @@ use Rattle.rules.specs.Steps.{sentBy, newMessage}
 use Rattle.records.proofs.PlaceLaws.{count-alike}
 use Rattle.records.proofs.ReaderLaws.{delivered-is, is-delivered}
 use Rattle.preservation.proofs.Shapes.{shaped-messages}
-use Rattle.preservation.proofs.Places.{Seen, changed, kept, seen-message}
+use Rattle.preservation.proofs.AfterChange.{Seen, changed, kept, seen-message}
 use Rattle.preservation.proofs.Families.{ChildOf}
 use Rattle.preservation.proofs.Locking.{never}
 use Rattle.preservation.proofs.OneAgent.{Good}

@@ -15,7 +15,7 @@ use Rattle.records.specs.Limits.{mostAgents}
 use Rattle.rules.specs.Holding.{nextAgent, withNewAgent, IsAgent, agentAt, siteOf, phaseOf, messageAt}
 use Rattle.rules.specs.Soundness.{Child}
 use Rattle.rules.specs.Steps.{toPhase}
-use Rattle.preservation.proofs.Places.{SeenTwo, first, second, neither, seen-two}
+use Rattle.preservation.proofs.AfterChange.{SeenTwo, first, second, neither, seen-two}
 use Rattle.preservation.proofs.Families.{ChildOf}
 use Rattle.preservation.proofs.AgentSteps.{MovingIn, not-moving, Alone, alone, alone-mapped, moving-as, moves-same, agents-sound}
 use Rattle.preservation.proofs.Locking.{never}

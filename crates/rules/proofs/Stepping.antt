@@ -29,4 +29,4 @@ test-limits t passed = limits (t .sites) (t .agents) (t .messages) (t .handed) (
 pub test-fits : (t : State) {sound : Bool} → sound ≡ soundTest t → FitIfSound sound t
 test-fits t tested passed =
     let within : Limits (t .agents) (t .messages) (t .handed) = test-limits t (sym tested ∙ passed) in
-    record { messages = within .messages-fit; handed = within .handed-fit }
+    record { agents = within .agents-fit; messages = within .messages-fit; handed = within .handed-fit }

@@ -10,9 +10,8 @@ use borrow.Author.Tests.{le-leb, lt-leb}
 use Rattle.records.specs.declared.Code.the-variants.{NoRoom}
 use Rattle.rules.specs.declared.State.{State}
 use Rattle.text.specs.Text.{written}
-use Rattle.text.specs.Writing.{wroteText}
+use Rattle.text.specs.Writing.{wroteText, writeFitting}
 use Rattle.text.specs.Placing.{Put}
-use Rattle.text.specs.Fitting.{writeFitting}
 
 pub too-long : (t : State) (b : List ℕ) {b₀ b₁ : List ℕ} {n : ℕ}
     → Put (written t) b₀ b₁ 0 n → length b < n

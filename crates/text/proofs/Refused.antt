@@ -4,21 +4,9 @@ use mathlib.Core.Path.{_≡_}
 use mathlib.Core.Bool.{true, false}
 use mathlib.Core.List.{List}
 use Rattle.records.specs.declared.Code.the-variants.{BadState}
-use Rattle.rules.specs.Tests.{countsFine, partsSound}
-use Rattle.rules.proofs.Limits.{limits}
 use Rattle.rules.specs.declared.State.{State}
 use Rattle.rules.specs.SoundTest.{soundTest}
-use Rattle.text.specs.Writing.{writeOf}
-use Rattle.text.specs.Fitting.{CountsFit, writeFitting}
-use Rattle.records.proofs.FlagLaws.{and-left}
-
--- a table that passes the test has counts within the arrays' room
-pub counts-fit : (t : State) → soundTest t ≡ true → CountsFit t
-unfolding soundTest partsSound
-counts-fit t e =
-    let fine : countsFine (t .sites) (t .agents) (t .messages) (t .handed) ≡ true = and-left _ _ e in
-    let within = limits (t .sites) (t .agents) (t .messages) (t .handed) fine in
-    (within .agents-fit, within .messages-fit, within .handed-fit)
+use Rattle.text.specs.Writing.{writeFitting, writeOf}
 
 pub write-unsound : (t : State) (b : List ℕ) → soundTest t ≡ false
     → writeOf t b ≡ record { answer = record { code = BadState; number = 0; length = 0 }; buffer = b }

@@ -3,4 +3,3 @@ pub mod Placing
 pub mod Text
 pub mod Rows
 pub mod Writing
-pub mod Fitting

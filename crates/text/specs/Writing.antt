@@ -26,10 +26,12 @@ abbrev pub wroteText : List ℕ → List ℕ → Wrote
 wroteText text buffer =
     record { answer = record { code = Done; number = 0; length = length text }; buffer = text ++ drop (length text) buffer }
 
--- refused where the table is not sound, and then where its text is longer than the buffer
+-- a sound table: refused where its text is longer than the buffer
+abbrev pub writeFitting : State → List ℕ → Wrote
+writeFitting t buffer =
+    unlessWriting (leb (length (written t)) (length buffer)) NoRoom buffer (wroteText (written t) buffer)
+
+-- any table: refused where it is not sound, and then where its text is longer than the buffer
 unfoldable pub writeOf : State → List ℕ → Wrote
 unfolding soundTest written
-writeOf t buffer =
-    unlessWriting (soundTest t) BadState buffer
-    (unlessWriting (leb (length (written t)) (length buffer)) NoRoom buffer
-    (wroteText (written t) buffer))
+writeOf t buffer = unlessWriting (soundTest t) BadState buffer (writeFitting t buffer)

@@ -1,8 +1,9 @@
 // The whole table's text.
 ghost use mathlib.Core.Path.{_≡_};
-ghost use Rattle.text.specs.Fitting.{CountsFit, writeFitting};
+ghost use Rattle.rules.specs.Fitting.{CountsFit};
 ghost use Rattle.text.specs.Placing.{Put};
 ghost use Rattle.text.specs.Text.{written};
+ghost use Rattle.text.specs.Writing.{writeFitting};
 use crate::lines::put_counts;
 use crate::lines::put_lock;
 use crate::rows::put_agents;

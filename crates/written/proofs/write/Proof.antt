@@ -3,8 +3,9 @@ use mathlib.Core.Path.{_≡_, sym, ap, _∙_}
 use denote.Ref.{now}
 use borrow.Author.Needs.{needs}
 use borrow.Author.Tests.{not-true, not-false}
+use Rattle.rules.proofs.Stepping.{test-fits}
 use Rattle.text.specs.Writing.{Wrote}
-use Rattle.text.proofs.Refused.{counts-fit, write-unsound, write-sound}
+use Rattle.text.proofs.Refused.{write-unsound, write-sound}
 use Rattle.written.proofs.write.Statement.{statement}
 use Rattle.written.proofs.write.Tie as tie
 
@@ -22,8 +23,7 @@ returns c =
 write-sound-requires : tie.Need-write-sound-requires
 write-sound-requires c κs =
     let test = c .before .before .is-sound in
-    let start = c .before .before .before .before in
-    counts-fit (start .args .t) (sym (test .ensures) ∙ not-false (test .result) (c .before .if1 .left))
+    test-fits _ (test .ensures) (not-false (test .result) (c .before .if1 .left))
 
 same-length : tie.Need-same-length
 same-length c = search needs
