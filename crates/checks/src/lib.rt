@@ -4,7 +4,6 @@ ghost use Rattle.rules.specs.Tests.{countsFine, lockThere};
 
 pub mod agents;
 pub mod messages;
-pub mod places;
 
 use records::Lock;
 use records::flags::both;

@@ -6,7 +6,7 @@ ghost use lib.ListN.{getD};
 ghost use Rattle.records.specs.Limits.{mostAgents, mostMessages};
 ghost use Rattle.records.specs.Numbers.{agentNo};
 ghost use Rattle.rules.specs.Tests.{delivered, statusRoom, numbersFine, logFine, bookFine};
-use checks::places::mail_place;
+use crate::places::mail_place;
 use records::AgentNo;
 use records::MailNo;
 use records::Stand;

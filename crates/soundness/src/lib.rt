@@ -3,6 +3,7 @@
 mod agents;
 mod book;
 mod messages;
+mod places;
 mod rooms;
 
 ghost use mathlib.Core.Path.{_≡_};

@@ -1,7 +1,7 @@
 // Runs the lines of standard input on the methods of a table, as a host calls them, and prints behind each line what it answers, as
-// CODE,NUMBER; then what is read of a short session's tables. An opening line always opens anew. Beside the lines of a script there are
-// `none`, which starts again from the table that stands where an answer has none, and `agents=N`, `messages=N` and `own=N`, which fill the
-// table up to N. An empty line, and one that begins with `#`, is a heading.
+// CODE,NUMBER. An opening line always opens anew. Beside the lines of a script there are `none`, which starts again from the table that
+// stands where an answer has none; `agents=N`, `messages=N` and `own=N`, which fill the table up to N; and `agent=A`, `message=M` and
+// `inbox=A`, which read it. An empty line, and one that begins with `#`, is a heading.
 use check::same;
 use grammar::Line;
 use grammar::Numeral;
@@ -9,7 +9,12 @@ use libc::STDIN_FILENO;
 use lines::read_line;
 use printing::put;
 use printing::put_number;
+use reading::show_agent;
+use reading::show_inbox;
+use reading::show_message;
+use records::AgentNo;
 use records::Code;
+use records::MailNo;
 use records::codes::code_number;
 use scanning::finding::first_line;
 use scanning::finding::line_taken;
@@ -53,12 +58,25 @@ fn number_behind(word: &[u8], line: &[u8]) -> Numeral {
     Numeral::Number(n, taken)
 }
 
-// Takes a line that no script has: a word of this program's own goes on, and any other line answers 24.
-fn take_own(t: Table, line: &[u8]) -> Table {
-    if same(line, b"none") {
-        put(b": no table");
-        return Table::none();
+// Reads what a line asks for, and tells whether it asked for anything.
+fn read_own(t: Table, line: &[u8]) -> bool {
+    if let Numeral::Number(n, _) = number_behind(b"agent=", line) {
+        show_agent(t, AgentNo(n));
+        return true;
     }
+    if let Numeral::Number(n, _) = number_behind(b"message=", line) {
+        show_message(t, MailNo(n));
+        return true;
+    }
+    if let Numeral::Number(n, _) = number_behind(b"inbox=", line) {
+        show_inbox(t, AgentNo(n));
+        return true;
+    }
+    false
+}
+
+// Fills the table as a line asks for; any other line answers 24.
+fn fill_own(t: Table, line: &[u8]) -> Table {
     if let Numeral::Number(n, _) = number_behind(b"agents=", line) {
         return filled(full_tables::with_agents(t, n));
     }
@@ -73,6 +91,18 @@ fn take_own(t: Table, line: &[u8]) -> Table {
         code: Code::BadLine,
         number: 0,
     })
+}
+
+// Takes a line that no script has, by this program's own words.
+fn take_own(t: Table, line: &[u8]) -> Table {
+    if same(line, b"none") {
+        put(b": no table");
+        return Table::none();
+    }
+    if read_own(t, line) {
+        return t;
+    }
+    fill_own(t, line)
 }
 
 // Takes a line that is no heading.
@@ -115,10 +145,9 @@ fn show_lines(input: &[u8]) {
     }
 }
 
-// Shows the lines of standard input, and then the readings.
+// Shows the lines of standard input.
 fn main() {
     let mut input = io::large_buffer();
     let count = io::read_full(STDIN_FILENO, &mut input);
     show_lines(&input[..count]);
-    reading::show();
 }

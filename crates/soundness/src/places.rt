@@ -9,14 +9,14 @@ use records::limits::MOST_AGENTS;
 use records::limits::MOST_MESSAGES;
 
 // Gives a place in the array of agents, and that of a where a is below the room.
-pub fn agent_place(a: AgentNo) -> usize
+pub(crate) fn agent_place(a: AgentNo) -> usize
     ensures { λ r. ⌜ (r < mostAgents) × (a .0 < mostAgents → r ≡ a .0) ⌝ }
 {
     (a.0 % MOST_AGENTS) as usize
 }
 
 // Gives a place in the arrays of messages, and that of m where m is below the room.
-pub fn mail_place(m: MailNo) -> usize
+pub(crate) fn mail_place(m: MailNo) -> usize
     ensures { λ r. ⌜ (r < mostMessages) × (m .0 < mostMessages → r ≡ m .0) ⌝ }
 {
     (m.0 % MOST_MESSAGES) as usize
