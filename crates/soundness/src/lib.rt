@@ -9,11 +9,9 @@ mod rooms;
 ghost use mathlib.Core.Path.{_≡_};
 ghost use Prim.Native.Nat.{_≤_};
 ghost use Rattle.records.specs.Limits.{mostAgents, mostMessages};
-ghost use Rattle.rules.specs.Tests.{eachFine, partsSound};
+ghost use Rattle.rules.specs.Tests.{countsFine, lockThere, eachFine, partsSound};
 use agents::agents_fine;
 use book::book_fine;
-use checks::counts_fine;
-use checks::lock_there;
 use messages::messages_fine;
 use records::Agent;
 use records::AgentNo;
@@ -23,7 +21,30 @@ use records::Stand;
 use records::flags::both;
 use records::limits::AGENT_ROOM;
 use records::limits::MESSAGE_ROOM;
+use records::limits::MOST_AGENTS;
+use records::limits::MOST_MESSAGES;
+use records::limits::MOST_SITES;
 use rooms::number_room;
+
+// Tells whether the four counts are in their ranges.
+fn counts_fine(sites: u32, agents: u32, messages: u32, handed: u32) -> bool
+    ensures { λ r. ⌜ r ≡ countsFine sites agents messages handed ⌝ }
+{
+    let taken = both(messages <= MOST_MESSAGES, handed <= MOST_MESSAGES);
+    let made = both(1 <= agents, both(agents <= MOST_AGENTS, taken));
+    both(1 <= sites, both(sites <= MOST_SITES, made))
+}
+
+// The lock names only what is there.
+fn lock_there(agents: u32, messages: u32, lock: Lock) -> bool
+    ensures { λ r. ⌜ r ≡ lockThere agents messages lock ⌝ }
+{
+    match lock {
+        Lock::Unheld => true,
+        Lock::ForMove(a) => a.0 < agents,
+        Lock::ForMail(m) => m.0 < messages,
+    }
+}
 
 // Each agent, the lock and each message, with the room past agents, senders and addressees.
 fn each_fine(

@@ -116,7 +116,7 @@ impl Table {
         ensures { λ r. ⌜ r ≡ stepTable self (Step.Grant a) ⌝ }
     {
         let state = self.state;
-        answer_of(moves::grant(state, a))
+        answer_of(leaps::grant(state, a))
     }
 
     // A granted agent a goes to its target.
@@ -124,7 +124,7 @@ impl Table {
         ensures { λ r. ⌜ r ≡ stepTable self (Step.Leap a) ⌝ }
     {
         let state = self.state;
-        answer_of(moves::leap(state, a))
+        answer_of(leaps::leap(state, a))
     }
 
     // The server learns where a landed agent a is, and frees the lock.
@@ -132,7 +132,7 @@ impl Table {
         ensures { λ r. ⌜ r ≡ stepTable self (Step.Book a) ⌝ }
     {
         let state = self.state;
-        answer_of(moves::book(state, a))
+        answer_of(leaps::book(state, a))
     }
 
     // A booked agent a becomes free.
