@@ -25,6 +25,18 @@ use table::Table;
 mod printing;
 mod reading;
 
+// A line that no script has.
+enum Own {
+    Other,
+    Without,
+    FillAgents(u32),
+    FillMessages(u32),
+    FillOwn(u32),
+    ReadAgent(AgentNo),
+    ReadMessage(MailNo),
+    ReadInbox(AgentNo),
+}
+
 // Prints a code and a number, and hands on the table that came with them.
 fn told(r: Answer) -> Table {
     let code = r.code;
@@ -58,34 +70,45 @@ fn number_behind(word: &[u8], line: &[u8]) -> Numeral {
     Numeral::Number(n, taken)
 }
 
-// Reads what a line asks for, and tells whether it asked for anything.
-fn read_own(t: Table, line: &[u8]) -> bool {
+// Takes apart a line that reads the table.
+fn reading_line(line: &[u8]) -> Own {
     if let Numeral::Number(n, _) = number_behind(b"agent=", line) {
-        show_agent(t, AgentNo(n));
-        return true;
+        return Own::ReadAgent(AgentNo(n));
     }
     if let Numeral::Number(n, _) = number_behind(b"message=", line) {
-        show_message(t, MailNo(n));
-        return true;
+        return Own::ReadMessage(MailNo(n));
     }
     if let Numeral::Number(n, _) = number_behind(b"inbox=", line) {
-        show_inbox(t, AgentNo(n));
-        return true;
+        return Own::ReadInbox(AgentNo(n));
     }
-    false
+    Own::Other
 }
 
-// Fills the table as a line asks for; any other line answers 24.
-fn fill_own(t: Table, line: &[u8]) -> Table {
+// Takes apart a line that no script has.
+fn own_line(line: &[u8]) -> Own {
+    if same(line, b"none") {
+        return Own::Without;
+    }
     if let Numeral::Number(n, _) = number_behind(b"agents=", line) {
-        return filled(full_tables::with_agents(t, n));
+        return Own::FillAgents(n);
     }
     if let Numeral::Number(n, _) = number_behind(b"messages=", line) {
-        return filled(full_tables::with_messages(t, n));
+        return Own::FillMessages(n);
     }
     if let Numeral::Number(n, _) = number_behind(b"own=", line) {
-        return filled(full_tables::with_own_messages(t, n));
+        return Own::FillOwn(n);
     }
+    reading_line(line)
+}
+
+// Starts again from the table that stands where an answer has none.
+fn without() -> Table {
+    put(b": no table");
+    Table::none()
+}
+
+// Answers a line that is neither a script's nor this program's own.
+fn bad_line(t: Table) -> Table {
     told(Answer {
         table: t,
         code: Code::BadLine,
@@ -93,16 +116,18 @@ fn fill_own(t: Table, line: &[u8]) -> Table {
     })
 }
 
-// Takes a line that no script has, by this program's own words.
-fn take_own(t: Table, line: &[u8]) -> Table {
-    if same(line, b"none") {
-        put(b": no table");
-        return Table::none();
+// Takes a line of this program's own.
+fn take_own(t: Table, own: Own) -> Table {
+    match own {
+        Own::Other => bad_line(t),
+        Own::Without => without(),
+        Own::FillAgents(n) => filled(full_tables::with_agents(t, n)),
+        Own::FillMessages(n) => filled(full_tables::with_messages(t, n)),
+        Own::FillOwn(n) => filled(full_tables::with_own_messages(t, n)),
+        Own::ReadAgent(a) => show_agent(t, a),
+        Own::ReadMessage(m) => show_message(t, m),
+        Own::ReadInbox(a) => show_inbox(t, a),
     }
-    if read_own(t, line) {
-        return t;
-    }
-    fill_own(t, line)
 }
 
 // Takes a line that is no heading.
@@ -110,7 +135,7 @@ fn take_line(t: Table, line: &[u8]) -> Table {
     match read_line(line) {
         Line::Opening(sites) => told(Table::open(sites)),
         Line::Take(step) => told(t.step(step)),
-        Line::Bad => take_own(t, line),
+        Line::Bad => take_own(t, own_line(line)),
     }
 }
 

@@ -77,22 +77,32 @@ fn put_item(one: Item) {
     put_number(b", value ", one.value);
 }
 
-// Reads an agent and prints it.
-pub fn show_agent(t: Table, a: AgentNo) {
-    let read = t.agent_at(a);
+// Prints what was read under an agent's number.
+fn put_agent_read(read: AgentRead) {
     match read {
         AgentRead::NoSuch => put(b": none"),
         AgentRead::There(one) => put_agent(one),
     }
 }
 
-// Reads a message and prints it.
-pub fn show_message(t: Table, m: MailNo) {
-    let read = t.message_at(m);
+// Reads an agent, prints it and hands on the table.
+pub fn show_agent(t: Table, a: AgentNo) -> Table {
+    put_agent_read(t.agent_at(a));
+    t
+}
+
+// Prints what was read under a message's number.
+fn put_message_read(read: MessageRead) {
     match read {
         MessageRead::NoSuch => put(b": none"),
         MessageRead::There(one) => put_message(one),
     }
+}
+
+// Reads a message, prints it and hands on the table.
+pub fn show_message(t: Table, m: MailNo) -> Table {
+    put_message_read(t.message_at(m));
+    t
 }
 
 // Prints what was read at a place of an inbox.
@@ -103,10 +113,11 @@ fn put_read(read: ItemRead) {
     }
 }
 
-// Reads the first two entries of an inbox and prints them.
-pub fn show_inbox(t: Table, a: AgentNo) {
+// Reads the first two entries of an inbox, prints them and hands on the table.
+pub fn show_inbox(t: Table, a: AgentNo) -> Table {
     put(b": first");
     put_read(t.inbox_at(a, 0));
     put(b"; second");
     put_read(t.inbox_at(a, 1));
+    t
 }
