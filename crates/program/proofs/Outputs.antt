@@ -27,18 +27,18 @@ use Rattle.program.specs.declared.Turn.{Turn}
 use Rattle.grammar.specs.Grammar.{lineOf}
 use Rattle.grammar.specs.Lines.{linesOf}
 use Rattle.program.specs.Program.{noDesk, openedBy, steppedBy, takeLine, turnLine, closing, outputFrom, mostInput, outputOf}
-use Rattle.program.specs.Running.{Ran, from, atFront, behind, tableBehind, runEnd, runLines, runOf}
+use Rattle.program.specs.Running.{Progress, from, atFront, behind, tableBehind, runEnd, runLines, runOf}
 use Rattle.program.proofs.Turns.{when-true, when-false}
 
 -- a text behind what was put before, from a place within the buffer
-abbrev onward : Ran → List ℕ → Ran
+abbrev onward : Progress → List ℕ → Progress
 onward r text = from (r .next + length text) (sets (r .buffer) (r .next) text)
 
-behind-within : (r : Ran) (text : List ℕ) → r .next ≤ length (r .buffer) → behind r text ≡ onward r text
+behind-within : (r : Progress) (text : List ℕ) → r .next ≤ length (r .buffer) → behind r text ≡ onward r text
 behind-within r text h = ap (λ (n : ℕ). from n (sets (r .buffer) (r .next) text)) (place-within text (r .buffer) (r .next) h)
 
 -- one text and then another is the two together
-onward-then : (r : Ran) (x y : List ℕ) → onward (onward r x) y ≡ onward r (x ++ y)
+onward-then : (r : Progress) (x y : List ℕ) → onward (onward r x) y ≡ onward r (x ++ y)
 onward-then r x y =
     ap₂ from (add-assoc (r .next) (length x) (length y) ∙ sym (ap (λ (n : ℕ). r .next + n) (length-append x y))) (sets-then x y (r .buffer) (r .next))
 
@@ -51,7 +51,7 @@ write-is : (t : State) (room : List ℕ) → soundTest t ≡ true → length (wr
 unfolding writeOf
 write-is t room s h = rw (s, le-leb (length (written t)) (length room) h)
 
-module _ (r : Ran) (t : State) (s : soundTest t ≡ true) (h : r .next + length (written t) ≤ length (r .buffer)) where
+module _ (r : Progress) (t : State) (s : soundTest t ≡ true) (h : r .next + length (written t) ≤ length (r .buffer)) where
   wrote : writeOf t (drop (r .next) (r .buffer)) ≡ wroteText (written t) (drop (r .next) (r .buffer))
   wrote = write-is t (drop (r .next) (r .buffer)) s (simp length-drop (omega arith))
 
@@ -91,7 +91,7 @@ module _ (Fine : State → Type 0)
 
   -- the end of a run
   ends :
-      (r : Ran) (d : Desk) (b : Bool)
+      (r : Progress) (d : Desk) (b : Bool)
       → d .opened ≡ b
       → FineDesk d
       → r .next + length (closing d) ≤ length (r .buffer)
@@ -108,11 +108,11 @@ module _ (Fine : State → Type 0)
       ∙ ap (onward r) (when-false (d .opened) (written (d .table .state)) (bytes "state=none\n") e)
 
   -- the lines
-  room-left : (r : Ran) (x y : List ℕ) → r .next + length (x ++ y) ≤ length (r .buffer) → onward r x .next + length y ≤ length (onward r x .buffer)
+  room-left : (r : Progress) (x y : List ℕ) → r .next + length (x ++ y) ≤ length (r .buffer) → onward r x .next + length y ≤ length (onward r x .buffer)
   room-left r x y h = simp length-sets (omega (arith, simp length-append at h))
 
   lines-onward :
-      (ls : List (List ℕ)) (r : Ran) (d : Desk) (k : ℕ)
+      (ls : List (List ℕ)) (r : Progress) (d : Desk) (k : ℕ)
       → FineDesk d
       → r .next + length (outputFrom d k ls) ≤ length (r .buffer)
       → runLines r d k ls ≡ onward r (outputFrom d k ls)
@@ -122,7 +122,7 @@ module _ (Fine : State → Type 0)
       let turn : Turn = takeLine d (lineOf l) in
       let answer : List ℕ = turnLine k turn in
       let more : List ℕ = outputFrom (turn .desk) (suc k) ls in
-      ap (λ (s : Ran). runLines s (turn .desk) (suc k) ls) (behind-within r answer (omega arith))
+      ap (λ (s : Progress). runLines s (turn .desk) (suc k) ls) (behind-within r answer (omega arith))
       ∙ lines-onward ls (onward r answer) (turn .desk) (suc k) (line-fine d (lineOf l) f) (room-left r answer more h)
       ∙ onward-then r answer more
 

@@ -23,13 +23,13 @@ use Rattle.grammar.specs.Finding.{firstLine, lineTaken, afterLine}
 use Rattle.grammar.specs.Grammar.{lineOf}
 use Rattle.grammar.specs.Lines.{linesOf}
 use Rattle.program.specs.Program.{takeLine, answerLine, turnLine}
-use Rattle.program.specs.Running.{Ran, Came, from, behind, tableBehind, runEnd, runLines}
+use Rattle.program.specs.Running.{Progress, Came, from, behind, tableBehind, runEnd, runLines}
 use Rattle.grammar.proofs.LineEnds.{lines-of-some}
 use Rattle.program.proofs.Turns.{when-true, when-false}
 
 -- the same run by another description, and a text that was put
-pub came-same : {x y : Ran} {n : ℕ} {b : List ℕ} → x ≡ y → Came x n b → Came y n b
-came-same e c = record { place = c .place ∙ ap (λ (r : Ran). r .next) e; held = c .held ∙ ap (λ (r : Ran). r .buffer) e }
+pub came-same : {x y : Progress} {n : ℕ} {b : List ℕ} → x ≡ y → Came x n b → Came y n b
+came-same e c = record { place = c .place ∙ ap (λ (r : Progress). r .next) e; held = c .held ∙ ap (λ (r : Progress). r .buffer) e }
 
 pub came-put : {text b after : List ℕ} {at next : ℕ} → PutWithin text b after at next → Came (behind (from at b) text) next after
 came-put p = record { place = p .place; held = p .held }
@@ -82,7 +82,7 @@ module _ (at : ℕ) (b : List ℕ) (t : State) (h : at ≤ length b) {w : Writte
       })
 
 -- one line further, and no line left
-run-on : (r : Ran) (d : Desk) (k : ℕ) (rest : List ℕ) → 0 < length rest
+run-on : (r : Progress) (d : Desk) (k : ℕ) (rest : List ℕ) → 0 < length rest
     → runLines r d k (linesOf rest)
     ≡ runLines (behind r (turnLine k (takeLine d (lineOf (firstLine rest))))) (takeLine d (lineOf (firstLine rest)) .desk) (suc k) (linesOf (afterLine rest))
 unfolding runLines
@@ -106,7 +106,7 @@ module _ (k : ℕ) (rest : List ℕ) (d : Desk) {at next taken : ℕ} {b after l
       let put : from next after ≡ behind (from at b) (turnLine (suc k) r) = answered k at next b after r p in
       rw (left, put, add-one k, turn) (run-on (from at b) d (suc k) rest h)
 
-pub run-ends : (r : Ran) (d : Desk) (k : ℕ) (rest : List ℕ) → length rest ≤ 0 → runEnd r d ≡ runLines r d k (linesOf rest)
+pub run-ends : (r : Progress) (d : Desk) (k : ℕ) (rest : List ℕ) → length rest ≤ 0 → runEnd r d ≡ runLines r d k (linesOf rest)
 unfolding runLines linesOf
 run-ends r d k [] h = refl
 run-ends r d k (b ∷ bs) h = let z : _≡_ {A = ℕ} 0 1 = omega arith in cc

@@ -16,27 +16,27 @@ use Rattle.grammar.specs.Lines.{linesOf}
 use Rattle.program.specs.Program.{noDesk, takeLine, answerLine, turnLine, mostInput}
 
 -- how far a run has come: the place after what it has put into the buffer, and the buffer
-pub record Ran : Type 0 where
+pub record Progress : Type 0 where
   pub next : ℕ
   pub buffer : List ℕ
 
 -- a run that came so far answers this place and leaves this buffer
-pub record Came (ran : Ran) (next : ℕ) (buffer : List ℕ) : Type 0 where
+pub record Came (ran : Progress) (next : ℕ) (buffer : List ℕ) : Type 0 where
   pub place : next ≡ ran .next
   pub held : buffer ≡ ran .buffer
 
-abbrev pub from : ℕ → List ℕ → Ran
+abbrev pub from : ℕ → List ℕ → Progress
 from next buffer = record { next = next; buffer = buffer }
 
-abbrev pub atFront : List ℕ → Ran
+abbrev pub atFront : List ℕ → Progress
 atFront buffer = from 0 buffer
 
 -- a text behind what was put before, as far as the buffer has room; once the place is past its end nothing more is put
-abbrev pub behind : Ran → List ℕ → Ran
+abbrev pub behind : Progress → List ℕ → Progress
 behind r text = record { next = placeAfter (r .buffer) (r .next) text; buffer = sets (r .buffer) (r .next) text }
 
 -- the written table behind what was put before, where there is room for the whole of it
-unfoldable pub tableBehind : Ran → State → Ran
+unfoldable pub tableBehind : Progress → State → Progress
 unfolding writeOf
 tableBehind r t =
     cond (leb (r .next) (length (r .buffer)))
@@ -47,18 +47,18 @@ tableBehind r t =
     r
 
 -- the end of a run: the written table, or state=none if never opened
-unfoldable pub runEnd : Ran → Desk → Ran
+unfoldable pub runEnd : Progress → Desk → Progress
 unfolding tableBehind
 runEnd r d = cond (d .opened) (tableBehind r (d .table .state)) (behind r (bytes "state=none\n"))
 
 -- an answer for each line, counted from k, and then the end
-unfoldable pub runLines : Ran → Desk → ℕ → List (List ℕ) → Ran
+unfoldable pub runLines : Progress → Desk → ℕ → List (List ℕ) → Progress
 unfolding takeLine answerLine runEnd lineOf
 runLines r d k [] = runEnd r d
 runLines r d k (l ∷ ls) =
     runLines (behind r (turnLine k (takeLine d (lineOf l)))) (takeLine d (lineOf l) .desk) (suc k) ls
 
-unfoldable pub runOf : List ℕ → List ℕ → Ran
+unfoldable pub runOf : List ℕ → List ℕ → Progress
 unfolding runLines linesOf
 runOf input buffer =
     cond (leb (length input) mostInput)

@@ -76,9 +76,18 @@ fn report_openings() {
     report(b"-- refused only\n", b"sites=0\nsites=17\n");
 }
 
+// Prints a table whose agent has landed and is not booked yet, with the lock held for its move.
+fn report_landed() {
+    report(
+        b"-- landed and not booked\n",
+        b"sites=3\nask=0,2\ngrant=0\nleap=0\n",
+    );
+}
+
 fn main() {
     report_line_ends();
     report_bad_lines();
     report_openings();
+    report_landed();
     report_lengths();
 }
