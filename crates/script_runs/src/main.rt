@@ -84,6 +84,7 @@ fn report_landed() {
     );
 }
 
+// Prints every script with what it comes to.
 fn main() {
     report_line_ends();
     report_bad_lines();

@@ -32,6 +32,7 @@ fn digit_of(b: u8) -> u32 {
     (b as u32 + 2) % 10
 }
 
+// Takes as many rounds as standard input asks for.
 fn main() {
     let mut input = [0u8; 16];
     io::read_full(STDIN_FILENO, &mut input);

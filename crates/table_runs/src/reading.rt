@@ -86,7 +86,7 @@ fn put_agent_read(read: AgentRead) {
 }
 
 // Reads an agent, prints it and hands on the table.
-pub fn show_agent(t: Table, a: AgentNo) -> Table {
+pub(crate) fn show_agent(t: Table, a: AgentNo) -> Table {
     put_agent_read(t.agent_at(a));
     t
 }
@@ -100,7 +100,7 @@ fn put_message_read(read: MessageRead) {
 }
 
 // Reads a message, prints it and hands on the table.
-pub fn show_message(t: Table, m: MailNo) -> Table {
+pub(crate) fn show_message(t: Table, m: MailNo) -> Table {
     put_message_read(t.message_at(m));
     t
 }
@@ -114,7 +114,7 @@ fn put_read(read: ItemRead) {
 }
 
 // Reads the first two entries of an inbox, prints them and hands on the table.
-pub fn show_inbox(t: Table, a: AgentNo) -> Table {
+pub(crate) fn show_inbox(t: Table, a: AgentNo) -> Table {
     put(b": first");
     put_read(t.inbox_at(a, 0));
     put(b"; second");

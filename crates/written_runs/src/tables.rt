@@ -40,7 +40,7 @@ fn stand(status: Status) -> Stand {
 }
 
 // Gives the table that session S ends in.
-pub fn session() -> Table {
+pub(crate) fn session() -> Table {
     let mut t = Table::none().state;
     let mut people = t.agent;
     people[0] = agent(0, Phase::Free, Mapped::At(SiteNo(0)));
@@ -66,7 +66,7 @@ pub fn session() -> Table {
 }
 
 // Gives a table with the lock held for a move, a child not enrolled yet, and a message that waits for it.
-pub fn moving() -> Table {
+pub(crate) fn moving() -> Table {
     let mut t = Table::none().state;
     let mut people = t.agent;
     people[0] = agent(4, Phase::Spawning(AgentNo(1)), Mapped::At(SiteNo(4)));
@@ -102,7 +102,7 @@ pub fn moving() -> Table {
 }
 
 // Gives a table with the lock held for a message on its way, to a child that is enrolled.
-pub fn mailing() -> Table {
+pub(crate) fn mailing() -> Table {
     let mut t = Table::none().state;
     let mut people = t.agent;
     people[0] = agent(11, Phase::Spawning(AgentNo(1)), Mapped::At(SiteNo(11)));
@@ -179,7 +179,7 @@ fn closed() -> [Stand; MESSAGE_ROOM] {
 }
 
 // Gives a table of as many agents and messages as there can be, with the largest values; the last message is handed and not closed.
-pub fn full() -> Table {
+pub(crate) fn full() -> Table {
     let mut t = Table::none().state;
     let agent = families();
     let number = counted();
