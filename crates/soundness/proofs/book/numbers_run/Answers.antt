@@ -1,0 +1,68 @@
+-- `soundness::book::numbers_run` meets its contract.
+use borrow.Author.Rules.{rules}
+use Prim.Native.Nat.{ℕ, ◌+◌, ◌-◌, ◌≤◌}
+use mathlib.Core.Bool.{Bool, ◌&&◌}
+use mathlib.Core.Path.{◌≡◌, refl, sym, ◌∙◌}
+use native.Mathlib.Omega.{arith}
+use lib.ListN.{get_or, set, drop}
+use lib.Dec.{eqb}
+use Rattle.records.specs.Numbers.{mail_no}
+use Rattle.rules.specs.Tests.{numbers_run, no_counts, party_in, number_room}
+use Rattle.rules.proofs.TestRuns.{numbers-start, numbers_on, numbers-end, no-counts, counts-on}
+use Rattle.records.specs.Places.{all_of}
+use Rattle.records.proofs.LoopLaws.{room-on, room-end}
+use Rattle.soundness.proofs.book.numbers_run.Invariants.{test}
+use Rattle.soundness.proofs.book.numbers_run.Goals as goal
+
+-- the sender of the message at the loop's place, and the count of that sender
+abbrev who : tie.At-loop invariant-loop decreases-loop invariant-loop2 decreases-loop2 → ℕ
+who l = (party_in l.before.args.t2 (mail_no l.loop.i)).0
+
+abbrev had : tie.At-loop invariant-loop decreases-loop invariant-loop2 decreases-loop2 → ℕ
+had l = get_or l.loop.counts (who l) 0
+
+bounded : (l : tie.At-loop invariant-loop decreases-loop invariant-loop2 decreases-loop2) (k : ℕ) → get_or (set l.loop.counts (who l) (had l + 1)) k 0 ≤ l.loop.i + 1
+bounded l = counts-on l.loop.counts (who l) l.loop.i (had l + 1) (omega (arith, l.loop.invariant.1.0 (who l))) l.loop.invariant.1.0
+
+pub loop-i-init : goal.loop-i-init
+loop-i-init c = (search rules, (no-counts 64, numbers-start c.args.sender c.args.number c.args.messages no_counts))
+
+pub bounds-counts-place : goal.bounds-counts-place
+bounds-counts-place c = c.requires.1 c.loop-i.i (search rules)
+
+pub overflow_add-next : goal.overflow_add-next
+overflow_add-next c =
+    let loop = c.loop-i in
+    omega (arith, loop.invariant.1.0 (party_in c.args.sender (mail_no loop.i)).0)
+
+pub bounds-counts-place-in-loop-i : goal.bounds-counts-place-in-loop-i
+bounds-counts-place-in-loop-i c = c.requires.1 c.loop-i.i (search rules)
+
+pub loop-i-preserved : goal.loop-i-preserved
+loop-i-preserved c =
+    let args = c.args in
+    let loop = c.loop-i in
+    let on = numbers_on args.sender args.number args.messages loop.i loop.counts loop.fine (search rules) in
+    (search rules, (bounded c, rw (loop.invariant.1.1, c.both-fine.ensures) on))
+
+pub loop-j-init : goal.loop-j-init
+loop-j-init c = refl
+
+pub loop-j-preserved : goal.loop-j-preserved
+loop-j-preserved c =
+    let args = c.args in
+    let loop2 = c.loop-j in
+    room-on test args.number 0 args.messages loop2.j loop2.empty c.both-empty.result loop2.invariant c.both-empty.ensures (search rules)
+
+pub returns : goal.returns
+unfolding number_room
+returns c =
+    let args = c.args in
+    let loop = c.loop-i in
+    let loop2 = c.loop-j in
+    let run = numbers-end args.sender args.number args.messages loop.i loop.counts loop.fine (search rules) in
+    rw (
+      c.both.ensures,
+      sym (loop.invariant.1.1 ∙ run),
+      room-end test args.number args.messages loop2.j loop2.empty loop2.invariant (search rules),
+    )
