@@ -14,16 +14,6 @@ use Rattle.records.proofs.LoopLaws.{room-on, room-end}
 use Rattle.soundness.proofs.book.numbers_run.Invariants.{test}
 use Rattle.soundness.proofs.book.numbers_run.Goals as goal
 
--- the sender of the message at the loop's place, and the count of that sender
-abbrev who : tie.At-loop invariant-loop decreases-loop invariant-loop2 decreases-loop2 → ℕ
-who l = (party_in l.before.args.t2 (mail_no l.loop.i)).0
-
-abbrev had : tie.At-loop invariant-loop decreases-loop invariant-loop2 decreases-loop2 → ℕ
-had l = get_or l.loop.counts (who l) 0
-
-bounded : (l : tie.At-loop invariant-loop decreases-loop invariant-loop2 decreases-loop2) (k : ℕ) → get_or (set l.loop.counts (who l) (had l + 1)) k 0 ≤ l.loop.i + 1
-bounded l = counts-on l.loop.counts (who l) l.loop.i (had l + 1) (omega (arith, l.loop.invariant.1.0 (who l))) l.loop.invariant.1.0
-
 pub loop-i-init : goal.loop-i-init
 loop-i-init c = (search rules, (no-counts 64, numbers-start c.args.sender c.args.number c.args.messages no_counts))
 
@@ -43,7 +33,10 @@ loop-i-preserved c =
     let args = c.args in
     let loop = c.loop-i in
     let on = numbers_on args.sender args.number args.messages loop.i loop.counts loop.fine (search rules) in
-    (search rules, (bounded c, rw (loop.invariant.1.1, c.both-fine.ensures) on))
+    let who = (party_in args.sender (mail_no loop.i)).0 in
+    let had = get_or loop.counts who 0 in
+    let bounded = counts-on loop.counts who loop.i (had + 1) (omega (arith, loop.invariant.1.0 who)) loop.invariant.1.0 in
+    (search rules, (bounded, rw (loop.invariant.1.1, c.both-fine.ensures) on))
 
 pub loop-j-init : goal.loop-j-init
 loop-j-init c = refl
