@@ -1,0 +1,13 @@
+use Prim.Native.Nat.{◌≤◌, ◌+◌, ◌-◌}
+use mathlib.Core.Path.{◌≡◌}
+use native.Mathlib.Omega.{arith}
+use lib.ListN.{length, drop}
+use Rattle.grammar.specs.Finding.{line_length}
+use Rattle.grammar.proofs.LineEnds.{length-on, length-stops, length-ends}
+use Rattle.scanning.proofs.finding.line_length.Given as goal
+
+abbrev pub invariant-loop-i : goal.invariant-loop-i
+invariant-loop-i l = (l.i ≤ length l.text) × (line_length l.text ≡ l.i + line_length (drop l.i l.text))
+
+abbrev pub decreases-loop-i : goal.decreases-loop-i
+decreases-loop-i l = length l.text - l.i
