@@ -1,0 +1,12 @@
+-- `hand` meets its contract.
+use Rattle.rules.specs.Steps.{rule_of}
+use Rattle.rules.proofs.Stepping.{step_by, test_fits}
+use borrow.Author.Rules.{rules}
+use Rattle.deliveries.proofs.hand.Goals as goal
+
+pub hand_rule-requires : goal.hand_rule-requires
+hand_rule-requires c = test_fits c.args.t c.is_sound-sound.ensures
+
+pub returns : goal.returns
+unfolding rule_of
+returns c = search step_by
