@@ -36,9 +36,5 @@ loop-i-preserved c =
           (put_then c.loop-i.invariant.1 c.put_byte-next.ensures),
     )
 
--- LOST same-length
-same_length : tie.Need-same-length invariant-loop decreases-loop
-same_length c = put-length c.before.loop.invariant.1
-
 pub returns : goal.returns
 returns c = put_same (take_all _ _ c.loop-i-test.false) c.loop-i.invariant.1

@@ -10,7 +10,7 @@ use Rattle.text.proofs.Placing.{put-none, put_then, put_same, put-length}
 use Rattle.written.proofs.place.put_word.Given as goal
 
 abbrev pub invariant-loop-i : goal.invariant-loop-i
-invariant-loop-i l = (l.i ≤ length l.initial.buf) × Put (take l.i l.initial.buf) l.at l.buf l.word l.next
+invariant-loop-i l = (l.i ≤ length l.word) × Put (take l.i l.word) l.initial.buf l.buf l.at l.next
 
 abbrev pub decreases-loop-i : goal.decreases-loop-i
-decreases-loop-i l = length l.initial.buf - l.i
+decreases-loop-i l = length l.word - l.i
