@@ -18,7 +18,7 @@ overflow_add-i c = omega (arith, c.log_length-end.ensures)
 
 pub returns-then-left-eq0 : goal.returns-then-left-eq0
 returns-then-left-eq0 c =
-    let whole : length c.args.log ≡ 512 = omega (arith, c.?well-formed) in
+    let whole : length c.args.log ≡ 512 = omega (arith, c.well_formed) in
     search (left-found, c)
 
 pub overflow_sub-left : goal.overflow_sub-left
@@ -29,7 +29,7 @@ loop-i-smaller-then-to-a c = omega arith
 
 pub loop-i-preserved-then-to-a : goal.loop-i-preserved-then-to-a
 loop-i-preserved-then-to-a c =
-    let whole : length c.args.log ≡ 512 = omega (arith, c.?well-formed) in
+    let whole : length c.args.log ≡ 512 = omega (arith, c.well_formed) in
     (omega arith, search (left-on, c, c.if-left-eq0.false))
 
 pub loop-i-smaller : goal.loop-i-smaller
@@ -37,10 +37,10 @@ loop-i-smaller c = omega arith
 
 pub loop-i-preserved : goal.loop-i-preserved
 loop-i-preserved c =
-    let whole : length c.args.log ≡ 512 = omega (arith, c.?well-formed) in
+    let whole : length c.args.log ≡ 512 = omega (arith, c.well_formed) in
     (omega arith, search (left-past, c, c.if-to-a.false))
 
 pub returns : goal.returns
 returns c =
-    let whole : length c.args.log ≡ 512 = omega (arith, c.?well-formed) in
+    let whole : length c.args.log ≡ 512 = omega (arith, c.well_formed) in
     search none_left
