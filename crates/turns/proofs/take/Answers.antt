@@ -1,0 +1,22 @@
+-- `turns::take` meets its contract.
+use mathlib.Core.Path.{ap, ◌∙◌}
+use borrow.Author.Tests.{not-true, not-false}
+use Rattle.program.specs.Program.{stepped_by}
+use Rattle.program.proofs.Turns.{no_step, not-open, steps}
+use borrow.Author.Rules.{rules}
+use Rattle.turns.proofs.take.Goals as goal
+
+pub returns-in_default : goal.returns-in_default
+returns-in_default c = c.take_opening.ensures ∙ no_step c.args.desk c.args.line c.in_default.keys2
+
+pub returns-then-not-desk : goal.returns-then-not-desk
+returns-then-not-desk c =
+    let desk = c.args.desk in
+    let line = c.line-1.given in
+    c.turned_away.ensures ∙ not-open desk line.0.0 line.1 (not-true desk.opened c.if-not-desk.true)
+
+pub returns : goal.returns
+returns c =
+    let desk = c.args.desk in
+    let line = c.line-1.given in
+    ap stepped_by c.step-answer.ensures ∙ steps desk line.0.0 line.1 (not-false desk.opened c.if-not-desk.false)
