@@ -7,16 +7,14 @@ use borrow.Author.Rules.{rules}
 use Rattle.turns.proofs.take.Goals as goal
 
 pub returns-in_default : goal.returns-in_default
-returns-in_default c = c.take_opening.ensures ∙ no_step c.args.desk c.args.line c.in_default.keys2
+returns-in_default c = c.take_opening.ensures ∙ no_step c.args.desk c.args.line c.in_default-own.keys2
 
 pub returns-then-not-desk : goal.returns-then-not-desk
 returns-then-not-desk c =
     let desk = c.args.desk in
-    let line = c.line-1.given in
-    c.turned_away.ensures ∙ not-open desk line.0.0 line.1 (not-true desk.opened c.if-not-desk.true)
+    c.turned_away.ensures ∙ not-open desk c.in-Take.step c.in-Take.is (not-true desk.opened c.if-not-desk.true)
 
 pub returns : goal.returns
 returns c =
     let desk = c.args.desk in
-    let line = c.line-1.given in
-    ap stepped_by c.step-answer.ensures ∙ steps desk line.0.0 line.1 (not-false desk.opened c.if-not-desk.false)
+    ap stepped_by c.step-answer.ensures ∙ steps desk c.in-Take.step c.in-Take.is (not-false desk.opened c.if-not-desk.false)

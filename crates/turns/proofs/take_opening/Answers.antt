@@ -5,16 +5,14 @@ use borrow.Author.Rules.{rules}
 use Rattle.turns.proofs.take_opening.Goals as goal
 
 pub returns-in_default : goal.returns-in_default
-returns-in_default c = c.turned_away.ensures ∙ no-opening c.args.desk c.args.line c.in_default.keys2
+returns-in_default c = c.turned_away.ensures ∙ no-opening c.args.desk c.args.line c.in_default-own.keys2
 
 pub returns-then-desk : goal.returns-then-desk
 returns-then-desk c =
     let desk = c.args.desk in
-    let line = c.line-1.given in
-    c.turned_away-then-desk.ensures ∙ opened-again desk line.0.0 line.1 c.if-desk.true
+    c.turned_away-then-desk.ensures ∙ opened-again desk c.in-Opening.sites c.in-Opening.is c.if-desk.true
 
 pub returns : goal.returns
 returns c =
     let desk = c.args.desk in
-    let line = c.line-1.given in
-    c.opening.ensures ∙ opens desk line.0.0 line.1 c.if-desk.false
+    c.opening.ensures ∙ opens desk c.in-Opening.sites c.in-Opening.is c.if-desk.false
