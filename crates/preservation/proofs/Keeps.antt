@@ -3,16 +3,16 @@ use Prim.Native.Nat.{ℕ}
 use mathlib.Core.Path.{◌≡◌, ap, sym, subst}
 use mathlib.Core.Bool.{Bool}
 use borrow.Author.Tests.{lt-ltb, eq-eqb}
-use mathlib.Core.List.{List, [], ◌∷◌}
+use mathlib.Core.List.{[], ◌∷◌}
 use Rattle.records.specs.declared.SiteNo.{SiteNo}
 use Rattle.records.specs.declared.MailNo.{MailNo}
-use Rattle.records.specs.declared.Status.TheVariants.{Out, Handed, Lost}
+use Rattle.records.specs.declared.Status.TheVariants.{Out, Handed}
 use Rattle.records.specs.declared.Code.TheVariants.{BadState}
 use Rattle.rules.specs.declared.State.{State}
 use Rattle.rules.specs.declared.Reply.{Reply}
 use Rattle.rules.specs.declared.Step.{Step}
 use Rattle.rules.specs.declared.Step.TheVariants.{Hand}
-use Rattle.rules.specs.Holding.{Shaped, IsMessage, site_of, status_of, with_status, with_logged}
+use Rattle.rules.specs.Holding.{IsMessage, site_of, status_of, with_status, with_logged}
 use Rattle.rules.specs.Soundness.{Sound}
 use Rattle.rules.specs.Answers.{done, unless}
 use Rattle.rules.specs.Steps.{addressee_of, rule_of, step_of}

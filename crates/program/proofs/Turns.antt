@@ -2,10 +2,6 @@
 use Prim.Native.Nat.{ℕ}
 use mathlib.Core.Path.{◌≡◌, refl}
 use mathlib.Core.Bool.{Bool, true, false, cond}
-use mathlib.Core.List.{[], ◌∷◌}
-use mathlib.Core.Logic.{⊎_elim}
-use denote.Enum.Declared.{tag_of}
-use types.Run.{OneOf}
 use Rattle.records.specs.declared.Code.TheVariants.{BadLine, NotOpen, AlreadyOpen}
 use Rattle.rules.specs.declared.Step.{Step}
 use Rattle.table.specs.Face.{open_table, step_table}
@@ -14,20 +10,19 @@ use Rattle.grammar.specs.declared.Line.TheVariants.{Bad, Opening, Take}
 use Rattle.program.specs.declared.Desk.{Desk}
 use Rattle.program.specs.Program.{turned_away, opened_by, stepped_by, take_line}
 use Rattle.program.specs.Taking.{take_opening}
-use Rattle.grammar.specs.contracts.Line.{the_type}
 
 -- no step
-pub no_step : (d : Desk) (x : Line) → OneOf (0 ∷ 1 ∷ []) (tag_of the_type x) → take_opening d x ≡ take_line d x
+pub no_step : (d : Desk) (x : Line) → ((s : Step) → x ≡ Take s → ⊥) → take_opening d x ≡ take_line d x
 unfolding take_opening take_line
 no_step d Bad h = refl
 no_step d (Opening s) h = refl
-no_step d (Take s) h = ⊎_elim (λ e. cc) (λ e. cc) h
+no_step d (Take s) h = absurd (h s refl)
 
 -- no opening
-pub no-opening : (d : Desk) (x : Line) → OneOf (0 ∷ 2 ∷ []) (tag_of the_type x) → turned_away d BadLine ≡ take_opening d x
+pub no-opening : (d : Desk) (x : Line) → ((s : ℕ) → x ≡ Opening s → ⊥) → turned_away d BadLine ≡ take_opening d x
 unfolding take_opening
 no-opening d Bad h = refl
-no-opening d (Opening s) h = ⊎_elim (λ e. cc) (λ e. cc) h
+no-opening d (Opening s) h = absurd (h s refl)
 no-opening d (Take s) h = refl
 
 -- the two sides of a test, by what the test gave

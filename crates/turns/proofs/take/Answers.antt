@@ -7,7 +7,7 @@ use borrow.Author.Rules.{rules}
 use Rattle.turns.proofs.take.Goals as goal
 
 pub returns-in_default : goal.returns-in_default
-returns-in_default c = c.take_opening.ensures ∙ no_step c.args.desk c.args.line c.in_default-own.keys2
+returns-in_default c = c.take_opening.ensures ∙ no_step c.args.desk c.args.line c.in_default.not-Take
 
 pub returns-then-not-desk : goal.returns-then-not-desk
 returns-then-not-desk c =

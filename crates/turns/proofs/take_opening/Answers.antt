@@ -5,7 +5,7 @@ use borrow.Author.Rules.{rules}
 use Rattle.turns.proofs.take_opening.Goals as goal
 
 pub returns-in_default : goal.returns-in_default
-returns-in_default c = c.turned_away.ensures ∙ no-opening c.args.desk c.args.line c.in_default-own.keys2
+returns-in_default c = c.turned_away.ensures ∙ no-opening c.args.desk c.args.line c.in_default.not-Opening
 
 pub returns-then-desk : goal.returns-then-desk
 returns-then-desk c =
