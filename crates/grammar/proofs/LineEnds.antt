@@ -5,11 +5,11 @@ use native.Mathlib.Numerals.{add-one}
 use mathlib.Core.Path.{◌≡◌, refl}
 use mathlib.Core.Bool.{Bool, true, false, cond}
 use mathlib.Core.List.{List, [], ◌∷◌}
-use lib.ListN.{length, take, drop, get_or, drop_of_length-le}
+use lib.ListN.{length, drop, get_or, drop_of_length-le}
 use lib.Seq.{drop-cons}
 use lib.Dec.{eqb, ltb, leb-suc-suc}
 use borrow.Author.Tests.{eq-eqb, ne_eqb, lt-ltb, le-ltb, ltb-true, ltb-false}
-use Rattle.grammar.specs.Lines.{ahead, lines_of}
+use Rattle.grammar.specs.Lines.{lines_of}
 use Rattle.grammar.specs.Finding.{line_length, first_line, line_taken, after_line}
 
 -- the line from a place on: one longer at any byte but 10, over at byte 10 and at the end

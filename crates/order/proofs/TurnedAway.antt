@@ -9,7 +9,6 @@ use Rattle.rules.specs.declared.State.{State}
 use Rattle.rules.specs.declared.Reply.{Reply}
 use Rattle.rules.specs.declared.Step.{Step}
 use Rattle.rules.specs.declared.Step.TheVariants.{Spawn, Ask}
-use Rattle.rules.specs.Answers.{done}
 use Rattle.rules.specs.Steps.{opened, step_of}
 
 -- A contract that is an equation with a definition leaves one result: the scheme that every public function's promise falls under, for the

@@ -17,7 +17,7 @@ use Rattle.records.specs.declared.Status.TheVariants.{Queued, Out, Handed, Close
 use Rattle.records.specs.declared.Lock.{Lock}
 use Rattle.records.specs.declared.Lock.TheVariants.{Unheld, ForMove, ForMail}
 use Rattle.records.specs.Places.{all_of}
-use Rattle.text.specs.Decimal.{decimal, bytes}
+use Rattle.text.specs.Decimal.{decimal}
 use Rattle.text.specs.Text.{lock_text, phase_word, phase_number, map_text, status_word, status_site}
 use Rattle.text.proofs.Each.{Each, none, more}
 use Rattle.text.proofs.Decimals.{IsDigit, decimal-digits}

@@ -8,8 +8,7 @@ use native.Mathlib.Omega.{arith}
 use lib.Dec.{ltb}
 use borrow.Author.Tests.{ltb-true, ltb-false}
 use Rattle.records.specs.Places.{all_of}
-use Rattle.text.specs.Decimal.{bytes}
-use Rattle.text.specs.Text.{fields, line, row, rows_below}
+use Rattle.text.specs.Text.{fields, line, rows_below}
 use Rattle.records.proofs.FlagLaws.{and_left, and_right}
 use Rattle.text.proofs.Plain.{is_plain, Plain, AllPlain}
 

@@ -1,5 +1,4 @@
 -- `soundness::counts_fine` meets its contract.
-use borrow.Author.Rules.{rules}
 use Rattle.rules.specs.Tests.{counts_fine}
 use Rattle.soundness.proofs.counts_fine.Goals as goal
 

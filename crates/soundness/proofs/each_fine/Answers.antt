@@ -1,5 +1,4 @@
 -- `soundness::each_fine` meets its contract.
-use borrow.Author.Rules.{rules}
 use Rattle.rules.specs.Tests.{each_fine}
 use Rattle.soundness.proofs.each_fine.Goals as goal
 

@@ -1,5 +1,4 @@
 -- `soundness::lock_there` meets its contract.
-use borrow.Author.Rules.{rules}
 use Rattle.soundness.proofs.lock_there.Goals as goal
 
 pub returns-in-ForMove : goal.returns-in-ForMove

@@ -1,5 +1,4 @@
 -- `soundness::sound_parts` meets its contract.
-use borrow.Author.Rules.{rules}
 use mathlib.Core.Bool.{and-false}
 use borrow.Author.Tests.{not-false}
 use Rattle.records.proofs.FlagLaws.{told-true, told-false}

@@ -1,13 +1,10 @@
 -- `soundness::agents::agents_fine` meets its contract.
 use borrow.Author.Rules.{rules}
-use Prim.Native.Nat.{◌-◌, ◌≤◌}
-use mathlib.Core.Bool.{◌&&◌}
-use mathlib.Core.Path.{◌≡◌, refl}
-use Rattle.records.specs.Places.{all_below, all_of}
-use Rattle.rules.specs.Tests.{agent_fine, agent_room}
+use mathlib.Core.Path.{refl}
+use Rattle.records.specs.Places.{all_below}
+use Rattle.rules.specs.Tests.{agent_room}
 use Rattle.records.proofs.LoopLaws.{below_on, below_end, room-on, room-end}
 use Rattle.rules.proofs.PlacesRead.{agent-read}
-use lib.ListN.{drop}
 use Rattle.records.specs.Agents.{is_empty_agent, empty_agent}
 use Rattle.soundness.proofs.agents.agents_fine.Goals as goal
 

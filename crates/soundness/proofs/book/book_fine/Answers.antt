@@ -1,5 +1,4 @@
 -- `soundness::book::book_fine` meets its contract.
-use borrow.Author.Rules.{rules}
 use Rattle.rules.specs.Tests.{book_fine}
 use Rattle.soundness.proofs.book.book_fine.Goals as goal
 

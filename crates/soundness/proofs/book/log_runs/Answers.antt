@@ -1,15 +1,10 @@
 -- `soundness::book::log_runs` meets its contract.
 use borrow.Author.Rules.{rules}
-use Prim.Native.Nat.{◌-◌, ◌≤◌}
 use mathlib.Core.Bool.{Bool, true, false, ◌&&◌}
 use mathlib.Core.Path.{◌≡◌, refl}
-use lib.ListN.{drop}
-use lib.Dec.{eqb}
-use Rattle.rules.specs.Tests.{log_runs, no_marks, delivered, status_room, log_room}
+use Rattle.rules.specs.Tests.{no_marks, delivered, status_room, log_room}
 use Rattle.rules.proofs.TestRuns.{log-start, log-on, log-end}
-use Rattle.records.specs.Places.{all_of}
 use Rattle.records.specs.Messages.{empty_entry}
-use Rattle.records.specs.declared.MailNo.{MailNo}
 use Rattle.records.proofs.LoopLaws.{room-on, room-end}
 use Rattle.soundness.proofs.book.log_runs.Invariants.{test}
 use Rattle.soundness.proofs.book.log_runs.Goals as goal

@@ -1,16 +1,11 @@
 -- `soundness::book::marked_right` meets its contract.
 use borrow.Author.Rules.{rules}
-use Prim.Native.Nat.{◌-◌, ◌≤◌}
-use mathlib.Core.Bool.{Bool, false, beq, ◌&&◌}
-use mathlib.Core.Path.{◌≡◌, refl}
-use lib.ListN.{get_or, drop}
-use Rattle.records.specs.Numbers.{mail_no}
-use Rattle.records.specs.Messages.{is_delivered, is_queued, standing}
-use Rattle.records.specs.Places.{all_below, all_of}
-use Rattle.rules.specs.Tests.{delivered, status_in, status_room}
+use mathlib.Core.Path.{refl}
+use Rattle.records.specs.Messages.{standing}
+use Rattle.records.specs.Places.{all_below}
+use Rattle.rules.specs.Tests.{delivered, status_room}
 use Rattle.records.proofs.LoopLaws.{below_on, below_end, room-on, room-end}
 use Rattle.records.specs.declared.Status.TheVariants.{Queued}
-use Rattle.records.specs.declared.Stand.{Stand}
 use Rattle.soundness.proofs.book.marked_right.Invariants.{test}
 use Rattle.soundness.proofs.book.marked_right.Goals as goal
 
@@ -20,8 +15,7 @@ loop-i-init c = (search rules, refl)
 
 pub loop-i-preserved : goal.loop-i-preserved
 loop-i-preserved c =
-    let loop = c.loop-i in
-    (
+    let loop = c.loop-i in (
       search rules,
       below_on _ _ _ c.same_flag.result _ loop.invariant.1
           (rw (c.same_flag.ensures, c.either-inbox.ensures, c.status_kind-kind.ensures))

@@ -1,14 +1,11 @@
-use borrow.Author.Rules.{rules}
 use Prim.Native.Nat.{◌-◌, ◌≤◌}
 use mathlib.Core.Bool.{Bool, false, beq, ◌&&◌}
-use mathlib.Core.Path.{◌≡◌, refl}
+use mathlib.Core.Path.{◌≡◌}
 use lib.ListN.{get_or, drop}
 use Rattle.records.specs.Numbers.{mail_no}
-use Rattle.records.specs.Messages.{is_delivered, is_queued, standing}
+use Rattle.records.specs.Messages.{is_delivered, is_queued}
 use Rattle.records.specs.Places.{all_below, all_of}
-use Rattle.rules.specs.Tests.{delivered, status_in, status_room}
-use Rattle.records.proofs.LoopLaws.{below_on, below_end, room-on, room-end}
-use Rattle.records.specs.declared.Status.TheVariants.{Queued}
+use Rattle.rules.specs.Tests.{status_in}
 use Rattle.records.specs.declared.Stand.{Stand}
 use Rattle.soundness.proofs.book.marked_right.Given as goal
 

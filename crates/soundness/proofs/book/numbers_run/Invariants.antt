@@ -1,15 +1,10 @@
-use borrow.Author.Rules.{rules}
-use Prim.Native.Nat.{ℕ, ◌+◌, ◌-◌, ◌≤◌}
+use Prim.Native.Nat.{ℕ, ◌-◌, ◌≤◌}
 use mathlib.Core.Bool.{Bool, ◌&&◌}
-use mathlib.Core.Path.{◌≡◌, refl, sym, ◌∙◌}
-use native.Mathlib.Omega.{arith}
-use lib.ListN.{get_or, set, drop}
+use mathlib.Core.Path.{◌≡◌}
+use lib.ListN.{get_or, drop}
 use lib.Dec.{eqb}
-use Rattle.records.specs.Numbers.{mail_no}
-use Rattle.rules.specs.Tests.{numbers_run, no_counts, party_in, number_room}
-use Rattle.rules.proofs.TestRuns.{numbers-start, numbers_on, numbers-end, no-counts, counts-on}
+use Rattle.rules.specs.Tests.{numbers_run, no_counts}
 use Rattle.records.specs.Places.{all_of}
-use Rattle.records.proofs.LoopLaws.{room-on, room-end}
 use Rattle.soundness.proofs.book.numbers_run.Given as goal
 
 abbrev pub test : ℕ → Bool

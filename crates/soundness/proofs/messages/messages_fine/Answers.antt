@@ -1,18 +1,13 @@
 -- `soundness::messages::messages_fine` meets its contract.
 use borrow.Author.Rules.{rules}
-use Prim.Native.Nat.{ℕ, ◌-◌, ◌≤◌}
-use mathlib.Core.Bool.{Bool, true, ◌&&◌}
-use mathlib.Core.Path.{◌≡◌, refl, sym, ◌∙◌}
+use mathlib.Core.Bool.{true}
+use mathlib.Core.Path.{refl, sym, ◌∙◌}
 use borrow.Author.Tests.{not-true, not-false}
-use Rattle.records.specs.Places.{all_below, all_of}
-use lib.ListN.{get_or, drop}
-use Rattle.records.specs.Agents.{empty_agent}
-use Rattle.records.specs.Numbers.{agent_no, mail_no}
-use Rattle.rules.specs.Tests.{message_fine, party_in, status_in, party_room}
+use Rattle.records.specs.Places.{all_below}
+use Rattle.records.specs.Numbers.{agent_no}
+use Rattle.rules.specs.Tests.{message_fine, party_room}
 use Rattle.records.proofs.LoopLaws.{below_on, below-off, below_end, fails-first, room-on, room-end}
-use Rattle.rules.proofs.PlacesRead.{message_right, message-read}
-use lib.Dec.{eqb}
-use Rattle.records.specs.declared.AgentNo.{AgentNo}
+use Rattle.rules.proofs.PlacesRead.{message-read}
 use Rattle.soundness.proofs.messages.messages_fine.Invariants.{test}
 use Rattle.soundness.proofs.messages.messages_fine.Goals as goal
 
@@ -57,19 +52,18 @@ loop-i-preserved c =
     let tests = message_fine args.agents args.lock args.agent args.sender args.addressee args.status in
     let from = c.agent_place-from_place in
     let to = c.agent_place-to_place in
-    let read = message-read args.agents args.lock args.agent args.sender args.addressee args.status i from.result to.result c.requires.0 from.ensures.1 to.ensures.1 in
-    (
+    let read = message-read args.agents args.lock args.agent args.sender args.addressee args.status i from.result to.result c.requires.0 from.ensures.1 to.ensures.1 in (
       search rules,
       below_on tests i true true true
-      c.loop-i.invariant.1
-      (rw (
-        ← read,
-        sym c.parties_fine.ensures
-            ∙ not-false c.parties_fine.result c.if-not-parties_fine.false-raw,
-        sym c.status_right.ensures ∙ not-false c.status_right.result c.if-not-status_right.false-raw,
-      ))
-      refl,
-)
+          c.loop-i.invariant.1
+          (rw (
+            ← read,
+            sym c.parties_fine.ensures
+                ∙ not-false c.parties_fine.result c.if-not-parties_fine.false-raw,
+            sym c.status_right.ensures ∙ not-false c.status_right.result c.if-not-status_right.false-raw,
+          ))
+          refl,
+    )
 
 pub loop-j-init : goal.loop-j-init
 loop-j-init c = refl

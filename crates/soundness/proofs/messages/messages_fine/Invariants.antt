@@ -1,15 +1,9 @@
-use borrow.Author.Rules.{rules}
-use Prim.Native.Nat.{ℕ, ◌-◌, ◌≤◌}
+use Prim.Native.Nat.{◌-◌, ◌≤◌}
 use mathlib.Core.Bool.{Bool, true, ◌&&◌}
-use mathlib.Core.Path.{◌≡◌, refl, sym, ◌∙◌}
-use borrow.Author.Tests.{not-true, not-false}
+use mathlib.Core.Path.{◌≡◌}
 use Rattle.records.specs.Places.{all_below, all_of}
-use lib.ListN.{get_or, drop}
-use Rattle.records.specs.Agents.{empty_agent}
-use Rattle.records.specs.Numbers.{agent_no, mail_no}
-use Rattle.rules.specs.Tests.{message_fine, party_in, status_in, party_room}
-use Rattle.records.proofs.LoopLaws.{below_on, below-off, below_end, fails-first, room-on, room-end}
-use Rattle.rules.proofs.PlacesRead.{message_right, message-read}
+use lib.ListN.{drop}
+use Rattle.rules.specs.Tests.{message_fine}
 use lib.Dec.{eqb}
 use Rattle.records.specs.declared.AgentNo.{AgentNo}
 use Rattle.soundness.proofs.messages.messages_fine.Given as goal

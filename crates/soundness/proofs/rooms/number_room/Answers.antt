@@ -1,11 +1,6 @@
 -- `soundness::rooms::number_room` meets its contract.
 use borrow.Author.Rules.{rules}
-use Prim.Native.Nat.{ℕ, ◌-◌}
-use mathlib.Core.Bool.{Bool, ◌&&◌}
-use mathlib.Core.Path.{◌≡◌, refl}
-use lib.Dec.{eqb}
-use lib.ListN.{drop}
-use Rattle.records.specs.Places.{all_of}
+use mathlib.Core.Path.{refl}
 use Rattle.rules.specs.Tests.{number_room}
 use Rattle.records.proofs.LoopLaws.{room-on, room-end}
 use Rattle.soundness.proofs.rooms.number_room.Invariants.{test}

@@ -1,12 +1,9 @@
-use borrow.Author.Rules.{rules}
 use Prim.Native.Nat.{ℕ, ◌-◌}
 use mathlib.Core.Bool.{Bool, ◌&&◌}
-use mathlib.Core.Path.{◌≡◌, refl}
+use mathlib.Core.Path.{◌≡◌}
 use lib.Dec.{eqb}
 use lib.ListN.{drop}
 use Rattle.records.specs.Places.{all_of}
-use Rattle.rules.specs.Tests.{number_room}
-use Rattle.records.proofs.LoopLaws.{room-on, room-end}
 use Rattle.soundness.proofs.rooms.number_room.Given as goal
 
 abbrev pub test : ℕ → Bool
