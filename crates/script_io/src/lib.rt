@@ -1,14 +1,16 @@
-// A script's room in memory, and what it comes to on standard output: what the programs that run scripts share.
+// A script's room in memory, and what it comes to on an output: what the programs that run scripts share.
 #![tactic(auto)]
 
-ghost use Rattle.std.specs.Prelude.{suc, ◌≤◌, length, replicate, take, ◌≡◌};
+ghost use Rattle.std.specs.Prelude.{suc, ◌≤◌, length, replicate, take, ◌≡◌, OnOk};
+ghost use Rattle.std.specs.Io.KnownBytes.{Appends};
 ghost use Rattle.output.specs.Session.{most_output};
 ghost use Rattle.program.specs.Program.{most_input, output_of};
 
-use libc::STDOUT_FILENO;
 use output::MOST_OUTPUT;
 use program::MOST_INPUT;
 use script::run;
+use std::io;
+use std::io::Write;
 
 // One byte more than a script may have, so that one that is too long is seen.
 const INPUT_ROOM: usize = MOST_INPUT + 1;
@@ -35,16 +37,19 @@ fn fill(script: &[u8], output: &mut [u8]) -> usize
     run(script, output)
 }
 
-// Writes the script's output to standard output, by way of a buffer that has room for any.
-fn write_output(script: &[u8], output: &mut [u8])
+// Writes the script's output to a writer, by way of a buffer that has room for any.
+fn write_output<W: Write>(out: &mut W, script: &[u8], output: &mut [u8]) -> io::Result<()>
     requires { most_output ≤ length output.old }
+    ensures { OnOk result (Appends (W.contents out.old) (W.contents out.new) (output_of script.now)) }
 {
     let length = fill(script, output);
-    io::write_all(STDOUT_FILENO, &output[..length]);
+    out.write_all(&output[..length])
 }
 
-// Prints the script's output.
-pub fn print(script: &[u8]) {
+// Writes the script's output to a writer: to the last byte, where it answers Ok.
+pub fn print<W: Write>(out: &mut W, script: &[u8]) -> io::Result<()>
+    ensures { OnOk result (Appends (W.contents out.old) (W.contents out.new) (output_of script.now)) }
+{
     let mut output = output_room();
-    write_output(script, &mut output);
+    write_output(out, script, &mut output)
 }

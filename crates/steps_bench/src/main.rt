@@ -2,9 +2,10 @@
 // five steps. Output: the code of one more settle, which is out of turn.
 #![tactic(auto)]
 
-use libc::{STDIN_FILENO, STDOUT_FILENO};
+use reads::read_full;
 use records::codes::code_number;
 use records::{AgentNo, SiteNo};
+use std::io;
 use table::Table;
 
 // One round: agent 0 moves to u and is free again.
@@ -19,10 +20,8 @@ fn round(t: Table, u: u32) -> Table {
 // Takes n rounds, one after the other.
 fn rounds(first: Table, n: u32) -> Table {
     let mut t = first;
-    let mut i: u32 = 0;
-    while i < n {
+    for i in 0..n {
         t = round(t, i % 3);
-        i += 1;
     }
     t
 }
@@ -33,9 +32,9 @@ fn digit_of(b: u8) -> u32 {
 }
 
 // Takes as many rounds as standard input asks for.
-fn main() {
+fn main(rt: HostRuntime) -> io::Result<()> {
     let mut input = [0u8; 16];
-    io::read_full(STDIN_FILENO, &mut input);
+    read_full(&mut rt.stdin(), &mut input)?;
     let mut t = Table::open(3).table;
     if input[0] == b'f' {
         let peopled = full_tables::with_agents(t, Table::MOST_AGENTS);
@@ -45,6 +44,6 @@ fn main() {
     t = rounds(t, digit * 20000);
     let last = t.settle(AgentNo(0));
     let code = last.code;
-    io::print_decimal(STDOUT_FILENO, code_number(code) as u64);
-    io::write_all(STDOUT_FILENO, b"\n");
+    let shown = code_number(code);
+    println!(rt; "{shown}")
 }

@@ -4,16 +4,17 @@
 // `inbox=A`, which read it. An empty line, and one that begins with `#`, is a heading.
 #![tactic(auto)]
 
-use check::same;
 use grammar::{Line, Numeral};
-use libc::STDIN_FILENO;
 use lines::read_line;
 use printing::{put, put_number};
 use reading::{show_agent, show_inbox, show_message};
+use reads::read_full;
 use records::codes::code_number;
 use records::{AgentNo, Code, MailNo};
 use scanning::finding::{first_line, line_taken};
 use scanning::numerals::read_number;
+use std::io;
+use std::io::Write;
 use table::{Answer, Table};
 
 mod printing;
@@ -33,17 +34,17 @@ enum Own {
 }
 
 // Prints a code and a number, and hands on the table that came with them.
-fn told(r: Answer) -> Table {
+fn told<W: Write>(out: &mut W, r: Answer) -> io::Result<Table> {
     let code = r.code;
-    put_number(b": ", code_number(code));
-    put_number(b",", r.number);
-    r.table
+    put_number(out, b": ", code_number(code))?;
+    put_number(out, b",", r.number)?;
+    Ok(r.table)
 }
 
 // Prints that the table was filled, and hands it on.
-fn filled(t: Table) -> Table {
-    put(b": filled");
-    t
+fn filled<W: Write>(out: &mut W, t: Table) -> io::Result<Table> {
+    put(out, b": filled")?;
+    Ok(t)
 }
 
 // Reads the number that the whole line holds behind a word, if it begins with that word.
@@ -52,7 +53,7 @@ fn number_behind(word: &[u8], line: &[u8]) -> Numeral {
     if line.len() < at {
         return Numeral::NoNumber;
     }
-    if !same(&line[..at], word) {
+    if &line[..at] != word {
         return Numeral::NoNumber;
     }
     let text = &line[at..];
@@ -81,7 +82,7 @@ fn reading_line(line: &[u8]) -> Own {
 
 // Takes apart a line that no script has.
 fn own_line(line: &[u8]) -> Own {
-    if same(line, b"none") {
+    if line == b"none".as_slice() {
         return Own::Without;
     }
     if let Numeral::Number(n, _) = number_behind(b"agents=", line) {
@@ -97,40 +98,41 @@ fn own_line(line: &[u8]) -> Own {
 }
 
 // Starts again from the table that stands where an answer has none.
-fn without() -> Table {
-    put(b": no table");
-    Table::none()
+fn without<W: Write>(out: &mut W) -> io::Result<Table> {
+    put(out, b": no table")?;
+    Ok(Table::none())
 }
 
 // Answers a line that is neither a script's nor this program's own.
-fn bad_line(t: Table) -> Table {
-    told(Answer {
+fn bad_line<W: Write>(out: &mut W, t: Table) -> io::Result<Table> {
+    let answer = Answer {
         table: t,
         code: Code::BadLine,
         number: 0,
-    })
+    };
+    told(out, answer)
 }
 
 // Takes a line of this program's own.
-fn take_own(t: Table, own: Own) -> Table {
+fn take_own<W: Write>(out: &mut W, t: Table, own: Own) -> io::Result<Table> {
     match own {
-        Own::Other => bad_line(t),
-        Own::Without => without(),
-        Own::FillAgents(n) => filled(full_tables::with_agents(t, n)),
-        Own::FillMessages(n) => filled(full_tables::with_messages(t, n)),
-        Own::FillOwn(n) => filled(full_tables::with_own_messages(t, n)),
-        Own::ReadAgent(a) => show_agent(t, a),
-        Own::ReadMessage(m) => show_message(t, m),
-        Own::ReadInbox(a) => show_inbox(t, a),
+        Own::Other => bad_line(out, t),
+        Own::Without => without(out),
+        Own::FillAgents(n) => filled(out, full_tables::with_agents(t, n)),
+        Own::FillMessages(n) => filled(out, full_tables::with_messages(t, n)),
+        Own::FillOwn(n) => filled(out, full_tables::with_own_messages(t, n)),
+        Own::ReadAgent(a) => show_agent(out, t, a),
+        Own::ReadMessage(m) => show_message(out, t, m),
+        Own::ReadInbox(a) => show_inbox(out, t, a),
     }
 }
 
 // Takes a line that is no heading.
-fn take_line(t: Table, line: &[u8]) -> Table {
+fn take_line<W: Write>(out: &mut W, t: Table, line: &[u8]) -> io::Result<Table> {
     match read_line(line) {
-        Line::Opening(sites) => told(Table::open(sites)),
-        Line::Take(step) => told(t.step(step)),
-        Line::Bad => take_own(t, own_line(line)),
+        Line::Opening(sites) => told(out, Table::open(sites)),
+        Line::Take(step) => told(out, t.step(step)),
+        Line::Bad => take_own(out, t, own_line(line)),
     }
 }
 
@@ -143,31 +145,32 @@ fn is_heading(line: &[u8]) -> bool {
 }
 
 // Prints a line with what it comes to, and hands on the table.
-fn show_line(t: Table, line: &[u8]) -> Table {
-    put(line);
+fn show_line<W: Write>(out: &mut W, t: Table, line: &[u8]) -> io::Result<Table> {
+    put(out, line)?;
     if is_heading(line) {
-        put(b"\n");
-        return t;
+        put(out, b"\n")?;
+        return Ok(t);
     }
-    let after = take_line(t, line);
-    put(b"\n");
-    after
+    let after = take_line(out, t, line)?;
+    put(out, b"\n")?;
+    Ok(after)
 }
 
 // Shows every line of the input, one after the other.
-fn show_lines(input: &[u8]) {
+fn show_lines<W: Write>(out: &mut W, input: &[u8]) -> io::Result<()> {
     let mut rest = input;
     let mut t = Table::none();
     while 0 < rest.len() {
-        t = show_line(t, first_line(rest));
+        t = show_line(out, t, first_line(rest))?;
         let taken = line_taken(rest);
         rest = &rest[taken..];
     }
+    Ok(())
 }
 
 // Shows the lines of standard input.
-fn main() {
-    let mut input = io::large_buffer();
-    let count = io::read_full(STDIN_FILENO, &mut input);
-    show_lines(&input[..count]);
+fn main(rt: HostRuntime) -> io::Result<()> {
+    let mut input = [0u8; 65536];
+    let count = read_full(&mut rt.stdin(), &mut input)?;
+    show_lines(&mut rt.stdout(), &input[..count])
 }

@@ -1,13 +1,14 @@
 // What the parts of this program print with.
-use libc::STDOUT_FILENO;
+use std::io;
+use std::io::Write;
 
 // Prints a text.
-pub(crate) fn put(text: &[u8]) {
-    io::write_all(STDOUT_FILENO, text);
+pub(crate) fn put<W: Write>(out: &mut W, text: &[u8]) -> io::Result<()> {
+    out.write_all(text)
 }
 
 // Prints a text and a number behind it.
-pub(crate) fn put_number(before: &[u8], n: u32) {
-    put(before);
-    io::print_decimal(STDOUT_FILENO, n as u64);
+pub(crate) fn put_number<W: Write>(out: &mut W, before: &[u8], n: u32) -> io::Result<()> {
+    put(out, before)?;
+    write!(out, "{n}")
 }

@@ -125,13 +125,11 @@ fn families() -> [Agent; AGENT_ROOM] {
         phase: Phase::Free,
         map: Mapped::Nowhere,
     }; AGENT_ROOM];
-    let mut i: usize = 0;
-    while i < AGENT_ROOM - 1 {
-        let number = i as u32;
-        people[i] = agent(LAST_SITE, Phase::Spawning(AgentNo(number + 1)), here);
-        let next = i + 1;
-        people[next] = agent(LAST_SITE, Phase::Enrolled(AgentNo(number)), here);
-        i += 2;
+    for family in 0..AGENT_ROOM / 2 {
+        let parent = 2 * family;
+        let child = parent + 1;
+        people[parent] = agent(LAST_SITE, Phase::Spawning(AgentNo(child as u32)), here);
+        people[child] = agent(LAST_SITE, Phase::Enrolled(AgentNo(parent as u32)), here);
     }
     people
 }
@@ -139,10 +137,8 @@ fn families() -> [Agent; AGENT_ROOM] {
 // Counts one sender's messages from 1.
 fn counted() -> [u32; MESSAGE_ROOM] {
     let mut number = [0u32; MESSAGE_ROOM];
-    let mut i: usize = 0;
-    while i < MESSAGE_ROOM {
+    for i in 0..MESSAGE_ROOM {
         number[i] = i as u32 + 1;
-        i += 1;
     }
     number
 }
@@ -150,10 +146,8 @@ fn counted() -> [u32; MESSAGE_ROOM] {
 // Logs each message once, the last one first.
 fn backward() -> [MailNo; MESSAGE_ROOM] {
     let mut log = [MailNo(0); MESSAGE_ROOM];
-    let mut i: usize = 0;
-    while i < MESSAGE_ROOM {
+    for i in 0..MESSAGE_ROOM {
         log[i] = MailNo(LAST_MESSAGE - i as u32);
-        i += 1;
     }
     log
 }

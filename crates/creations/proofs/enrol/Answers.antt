@@ -1,7 +1,6 @@
 -- `enrol` meets its contract.
 use Rattle.rules.specs.Steps.{rule_of}
 use Rattle.rules.proofs.Stepping.{step_by}
-use borrow.Author.Rules.{rules}
 use Rattle.creations.proofs.enrol.Goals as goal
 
 pub returns : goal.returns

@@ -2,7 +2,6 @@
 use Rattle.rules.proofs.CreationsDone.{enrol-done}
 use Rattle.rules.specs.Steps.{enrol_rule}
 use Rattle.rules.proofs.RefusalLaws.{tests}
-use borrow.Author.Rules.{rules}
 use Rattle.creations.proofs.enrol_rule.Goals as goal
 
 pub returns-then-not-sound : goal.returns-then-not-sound

@@ -2,7 +2,6 @@
 use Rattle.rules.proofs.CreationsDone.{greet-done}
 use Rattle.rules.specs.Steps.{greet_rule}
 use Rattle.rules.proofs.RefusalLaws.{tests}
-use borrow.Author.Rules.{rules}
 use Rattle.creations.proofs.greet_rule.Goals as goal
 
 pub returns-then-not-sound : goal.returns-then-not-sound

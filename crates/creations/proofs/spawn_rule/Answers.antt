@@ -2,7 +2,6 @@
 use Rattle.rules.proofs.CreationsDone.{spawn-done}
 use Rattle.rules.specs.Steps.{spawn_rule}
 use Rattle.rules.proofs.RefusalLaws.{tests}
-use borrow.Author.Rules.{rules}
 use Rattle.creations.proofs.spawn_rule.Goals as goal
 
 pub returns-then-not-sound : goal.returns-then-not-sound

@@ -1,7 +1,6 @@
 -- `close` meets its contract.
 use Rattle.rules.specs.Steps.{rule_of}
 use Rattle.rules.proofs.Stepping.{step_by, test_fits}
-use borrow.Author.Rules.{rules}
 use Rattle.deliveries.proofs.close.Goals as goal
 
 pub close_rule-requires : goal.close_rule-requires

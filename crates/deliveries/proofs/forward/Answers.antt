@@ -1,7 +1,6 @@
 -- `forward` meets its contract.
 use Rattle.rules.specs.Steps.{rule_of}
 use Rattle.rules.proofs.Stepping.{step_by, test_fits}
-use borrow.Author.Rules.{rules}
 use Rattle.deliveries.proofs.forward.Goals as goal
 
 pub forward_rule-requires : goal.forward_rule-requires

@@ -4,7 +4,6 @@ use native.Mathlib.Omega.{arith}
 use Rattle.rules.proofs.DeliveriesDone.{forward-unmapped, forward-done}
 use Rattle.rules.specs.Steps.{forward_rule}
 use Rattle.rules.proofs.RefusalLaws.{tests}
-use borrow.Author.Rules.{rules}
 use Rattle.deliveries.proofs.forward_rule.Goals as goal
 
 pub returns-then-not-sound : goal.returns-then-not-sound

@@ -1,7 +1,6 @@
 -- `hand` meets its contract.
 use Rattle.rules.specs.Steps.{rule_of}
 use Rattle.rules.proofs.Stepping.{step_by, test_fits}
-use borrow.Author.Rules.{rules}
 use Rattle.deliveries.proofs.hand.Goals as goal
 
 pub hand_rule-requires : goal.hand_rule-requires

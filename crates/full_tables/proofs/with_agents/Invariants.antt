@@ -1,5 +1,4 @@
 use Prim.Native.Nat.{◌≤◌, ◌-◌}
-use borrow.Author.Rules.{rules}
 use Rattle.full_tables.proofs.with_agents.Given as goal
 
 abbrev pub invariant-loop-child : goal.invariant-loop-child

@@ -1,5 +1,4 @@
 use Prim.Native.Nat.{◌≤◌, ◌-◌}
-use borrow.Author.Rules.{rules}
 use Rattle.full_tables.proofs.with_own_messages.Given as goal
 
 abbrev pub invariant-loop-m : goal.invariant-loop-m

@@ -2,7 +2,6 @@
 use Rattle.rules.proofs.MovesDone.{book-done}
 use Rattle.rules.specs.Steps.{book_rule}
 use Rattle.rules.proofs.RefusalLaws.{tests}
-use borrow.Author.Rules.{rules}
 use Rattle.leaps.proofs.book_rule.Goals as goal
 
 pub returns-then-not-sound : goal.returns-then-not-sound

@@ -1,7 +1,6 @@
 -- `grant` meets its contract.
 use Rattle.rules.specs.Steps.{rule_of}
 use Rattle.rules.proofs.Stepping.{step_by}
-use borrow.Author.Rules.{rules}
 use Rattle.leaps.proofs.grant.Goals as goal
 
 pub returns : goal.returns

@@ -2,7 +2,6 @@
 use Rattle.rules.proofs.MovesDone.{leap-done}
 use Rattle.rules.specs.Steps.{leap_rule}
 use Rattle.rules.proofs.RefusalLaws.{tests}
-use borrow.Author.Rules.{rules}
 use Rattle.leaps.proofs.leap_rule.Goals as goal
 
 pub returns-then-not-sound : goal.returns-then-not-sound

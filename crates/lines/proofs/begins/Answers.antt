@@ -1,9 +1,7 @@
 -- `lines::begins` meets its contract.
-use Prim.Native.Nat.{◌≤◌, ◌-◌}
-use mathlib.Core.Path.{◌≡◌, refl, ap, sym, ◌∙◌}
+use mathlib.Core.Path.{refl, ap, sym, ◌∙◌}
 use native.Mathlib.Omega.{arith}
-use lib.ListN.{length, drop}
-use Rattle.grammar.specs.Grammar.{after_word}
+use lib.ListN.{drop}
 use Rattle.grammar.specs.LineParts.{is_after}
 use Rattle.grammar.proofs.Words.{word_on, word-differs, word-short, word-whole}
 use Rattle.lines.proofs.begins.Goals as goal

@@ -1,10 +1,7 @@
 use Prim.Native.Nat.{◌≤◌, ◌-◌}
-use mathlib.Core.Path.{◌≡◌, refl, ap, sym, ◌∙◌}
-use native.Mathlib.Omega.{arith}
+use mathlib.Core.Path.{◌≡◌}
 use lib.ListN.{length, drop}
 use Rattle.grammar.specs.Grammar.{after_word}
-use Rattle.grammar.specs.LineParts.{is_after}
-use Rattle.grammar.proofs.Words.{word_on, word-differs, word-short, word-whole}
 use Rattle.lines.proofs.begins.Given as goal
 
 abbrev pub invariant-loop-i : goal.invariant-loop-i

@@ -1,6 +1,5 @@
 -- `lines::last_number` meets its contract.
 use Rattle.grammar.proofs.NumberParts.{last_none, last_more, last-is}
-use borrow.Author.Rules.{rules}
 use Rattle.lines.proofs.last_number.Goals as goal
 
 pub returns-in_default : goal.returns-in_default

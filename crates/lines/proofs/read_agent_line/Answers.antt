@@ -1,7 +1,6 @@
 -- `lines::read_agent_line` meets its contract.
 use Rattle.grammar.proofs.LineKinds.{passed, met}
 use Rattle.grammar.proofs.Words.{word_fits}
-use borrow.Author.Rules.{rules}
 use Rattle.lines.proofs.read_agent_line.Goals as goal
 
 pub rest_of-requires : goal.rest_of-requires

@@ -1,6 +1,5 @@
 -- `lines::read_ask` meets its contract.
 use Rattle.grammar.proofs.NumberParts.{none_last, some-last, none-leading, some-leading, leading-fits}
-use borrow.Author.Rules.{rules}
 use Rattle.lines.proofs.read_ask.Goals as goal
 
 pub returns-in_default : goal.returns-in_default

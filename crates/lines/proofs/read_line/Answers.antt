@@ -2,7 +2,6 @@
 use Rattle.grammar.proofs.LineKinds.{passed, met}
 use Rattle.grammar.proofs.Words.{word_fits}
 use Rattle.grammar.specs.Grammar.{line_of}
-use borrow.Author.Rules.{rules}
 use Rattle.lines.proofs.read_line.Goals as goal
 
 pub rest_of-requires : goal.rest_of-requires

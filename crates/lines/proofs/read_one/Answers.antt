@@ -1,6 +1,5 @@
 -- `lines::read_one` meets its contract.
 use Rattle.grammar.proofs.NumberParts.{none_last, some-last}
-use borrow.Author.Rules.{rules}
 use Rattle.lines.proofs.read_one.Goals as goal
 
 pub returns-in_default : goal.returns-in_default

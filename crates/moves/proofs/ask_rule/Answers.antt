@@ -2,7 +2,6 @@
 use Rattle.rules.proofs.MovesDone.{ask-done}
 use Rattle.rules.specs.Steps.{ask_rule}
 use Rattle.rules.proofs.RefusalLaws.{tests}
-use borrow.Author.Rules.{rules}
 use Rattle.moves.proofs.ask_rule.Goals as goal
 
 pub returns-then-not-sound : goal.returns-then-not-sound

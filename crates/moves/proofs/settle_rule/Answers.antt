@@ -2,7 +2,6 @@
 use Rattle.rules.proofs.MovesDone.{settle-done}
 use Rattle.rules.specs.Steps.{settle_rule}
 use Rattle.rules.proofs.RefusalLaws.{tests}
-use borrow.Author.Rules.{rules}
 use Rattle.moves.proofs.settle_rule.Goals as goal
 
 pub returns-then-not-sound : goal.returns-then-not-sound

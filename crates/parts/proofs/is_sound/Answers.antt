@@ -1,6 +1,5 @@
 -- `is_sound` meets its contract.
 use Rattle.rules.specs.SoundTest.{sound_test}
-use borrow.Author.Rules.{rules}
 use Rattle.parts.proofs.is_sound.Goals as goal
 
 pub returns : goal.returns

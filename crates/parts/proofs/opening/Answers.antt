@@ -1,5 +1,4 @@
 -- `open` meets its contract: each return goes by the tests that led to it.
-use borrow.Author.Rules.{rules}
 use borrow.Author.Tests.{lt-ltb, le-ltb, le-leb, lt-leb}
 use native.Mathlib.Omega.{arith}
 use Rattle.rules.specs.Steps.{open_of}

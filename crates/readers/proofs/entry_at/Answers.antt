@@ -1,10 +1,8 @@
 -- `readers::entry_at` meets its contract. The loop's invariant: what is looked for is among the entries that are left.
-use Prim.Native.Nat.{◌≤◌, ◌-◌}
 use mathlib.Core.Path.{◌≡◌, refl}
 use lib.ListN.{length}
 use native.Mathlib.Omega.{arith}
-use Rattle.rules.proofs.InboxSearch.{Left, left-found, left-on, left-past, none_left}
-use borrow.Author.Rules.{rules}
+use Rattle.rules.proofs.InboxSearch.{left-found, left-on, left-past, none_left}
 use Rattle.readers.proofs.entry_at.Goals as goal
 
 pub loop-i-init : goal.loop-i-init

@@ -1,9 +1,5 @@
 use Prim.Native.Nat.{◌≤◌, ◌-◌}
-use mathlib.Core.Path.{◌≡◌, refl}
-use lib.ListN.{length}
-use native.Mathlib.Omega.{arith}
-use Rattle.rules.proofs.InboxSearch.{Left, left-found, left-on, left-past, none_left}
-use borrow.Author.Rules.{rules}
+use Rattle.rules.proofs.InboxSearch.{Left}
 use Rattle.readers.proofs.entry_at.Given as goal
 
 abbrev pub invariant-loop-i : goal.invariant-loop-i

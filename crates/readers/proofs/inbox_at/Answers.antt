@@ -1,6 +1,5 @@
 -- `inbox_at` meets its contract.
 use Rattle.rules.proofs.InboxSearch.{inbox-read}
-use borrow.Author.Rules.{rules}
 use Rattle.readers.proofs.inbox_at.Goals as goal
 
 pub returns : goal.returns

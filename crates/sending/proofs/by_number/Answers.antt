@@ -3,7 +3,6 @@ use Prim.Native.Nat.{◌≤◌}
 use native.Mathlib.Omega.{arith}
 use Rattle.rules.proofs.SentSearch.{count_fits}
 use Rattle.rules.proofs.SendingDone.{number-next, number-zero, number-gap, number-used}
-use borrow.Author.Rules.{rules}
 use Rattle.sending.proofs.by_number.Goals as goal
 
 pub overflow_add-sent : goal.overflow_add-sent

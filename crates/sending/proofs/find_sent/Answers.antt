@@ -1,10 +1,7 @@
 -- `sent::find_sent` meets its contract. The loop's invariant: what is looked for is below the places passed.
-use Prim.Native.Nat.{◌≤◌}
-use mathlib.Core.Path.{◌≡◌, refl, ◌∙◌, sym}
+use mathlib.Core.Path.{refl, ◌∙◌, sym}
 use native.Mathlib.Omega.{arith}
-use Rattle.records.specs.Places.{last_below}
-use Rattle.rules.proofs.SentSearch.{taken_as, last-hit, last-miss, last_end}
-use borrow.Author.Rules.{rules}
+use Rattle.rules.proofs.SentSearch.{last-hit, last-miss, last_end}
 use Rattle.sending.proofs.find_sent.Goals as goal
 
 pub loop-i-init : goal.loop-i-init

@@ -1,9 +1,7 @@
 use Prim.Native.Nat.{◌≤◌}
-use mathlib.Core.Path.{◌≡◌, refl, ◌∙◌, sym}
-use native.Mathlib.Omega.{arith}
+use mathlib.Core.Path.{◌≡◌}
 use Rattle.records.specs.Places.{last_below}
-use Rattle.rules.proofs.SentSearch.{taken_as, last-hit, last-miss, last_end}
-use borrow.Author.Rules.{rules}
+use Rattle.rules.proofs.SentSearch.{taken_as}
 use Rattle.sending.proofs.find_sent.Given as goal
 
 abbrev pub invariant-loop-i : goal.invariant-loop-i

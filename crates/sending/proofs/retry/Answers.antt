@@ -1,7 +1,6 @@
 -- `retry` meets its contract.
 use Rattle.rules.proofs.SentSearch.{last_fits}
 use Rattle.rules.proofs.SendingDone.{retry-missing, retry-astray, retry-changed, retry-repeats}
-use borrow.Author.Rules.{rules}
 use Rattle.sending.proofs.retry.Goals as goal
 
 pub returns-in_default : goal.returns-in_default

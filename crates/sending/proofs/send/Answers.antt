@@ -1,7 +1,6 @@
 -- `send` meets its contract.
 use Rattle.rules.specs.Steps.{rule_of}
 use Rattle.rules.proofs.Stepping.{step_by, test_fits}
-use borrow.Author.Rules.{rules}
 use Rattle.sending.proofs.send.Goals as goal
 
 pub send_rule-requires : goal.send_rule-requires

@@ -3,7 +3,6 @@ use borrow.Author.Tests.{not-false}
 use Rattle.rules.proofs.SendingDone.{send-on}
 use Rattle.rules.specs.Steps.{send_rule}
 use Rattle.rules.proofs.RefusalLaws.{tests}
-use borrow.Author.Rules.{rules}
 use Rattle.sending.proofs.send_rule.Goals as goal
 
 pub returns-then-not-sound : goal.returns-then-not-sound

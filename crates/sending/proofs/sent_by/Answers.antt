@@ -1,11 +1,10 @@
 -- `sent::sent_by` meets its contract. The loop's invariant: the count is that of the places passed.
-use Prim.Native.Nat.{◌≤◌, ◌-◌}
-use mathlib.Core.Path.{◌≡◌, refl}
+use Prim.Native.Nat.{◌≤◌}
+use mathlib.Core.Path.{refl}
 use borrow.Author.Tests.{eq-eqb, ne_eqb}
 use native.Mathlib.Omega.{arith}
 use Rattle.records.specs.Places.{count_below}
-use Rattle.rules.proofs.SentSearch.{taken_from, count-one, count_none, count-end, count_fits}
-use borrow.Author.Rules.{rules}
+use Rattle.rules.proofs.SentSearch.{count-one, count_none, count-end, count_fits}
 use Rattle.sending.proofs.sent_by.Goals as goal
 
 pub loop-i-init : goal.loop-i-init

@@ -1,10 +1,7 @@
 use Prim.Native.Nat.{◌≤◌, ◌-◌}
-use mathlib.Core.Path.{◌≡◌, refl}
-use borrow.Author.Tests.{eq-eqb, ne_eqb}
-use native.Mathlib.Omega.{arith}
+use mathlib.Core.Path.{◌≡◌}
 use Rattle.records.specs.Places.{count_below}
-use Rattle.rules.proofs.SentSearch.{taken_from, count-one, count_none, count-end, count_fits}
-use borrow.Author.Rules.{rules}
+use Rattle.rules.proofs.SentSearch.{taken_from}
 use Rattle.sending.proofs.sent_by.Given as goal
 
 abbrev pub invariant-loop-i : goal.invariant-loop-i

@@ -1,6 +1,5 @@
 -- `take_new` meets its contract.
 use Rattle.rules.proofs.SendingDone.{take-full, take_done}
-use borrow.Author.Rules.{rules}
 use Rattle.sending.proofs.take_new.Goals as goal
 
 pub returns-then-messages-ge-MOST_MESSAGES : goal.returns-then-messages-ge-MOST_MESSAGES

@@ -3,7 +3,6 @@ use mathlib.Core.Path.{ap, ◌∙◌}
 use borrow.Author.Tests.{not-true, not-false}
 use Rattle.program.specs.Program.{stepped_by}
 use Rattle.program.proofs.Turns.{no_step, not-open, steps}
-use borrow.Author.Rules.{rules}
 use Rattle.turns.proofs.take.Goals as goal
 
 pub returns-in_default : goal.returns-in_default

@@ -1,7 +1,6 @@
 -- `turns::take_opening` meets its contract.
 use mathlib.Core.Path.{◌∙◌}
 use Rattle.program.proofs.Turns.{no-opening, opened-again, opens}
-use borrow.Author.Rules.{rules}
 use Rattle.turns.proofs.take_opening.Goals as goal
 
 pub returns-in_default : goal.returns-in_default

@@ -1,6 +1,5 @@
 -- `written::write` meets its contract.
-use mathlib.Core.Path.{◌≡◌, sym, ap, ◌∙◌}
-use borrow.Author.Rules.{rules}
+use mathlib.Core.Path.{sym, ap, ◌∙◌}
 use borrow.Author.Tests.{not-true, not-false}
 use Rattle.rules.proofs.Stepping.{test_fits}
 use Rattle.text.specs.Writing.{Wrote}

@@ -1,9 +1,5 @@
 -- `scanning::finding::line_length` meets its contract.
-use Prim.Native.Nat.{◌≤◌, ◌+◌, ◌-◌}
-use mathlib.Core.Path.{◌≡◌}
 use native.Mathlib.Omega.{arith}
-use lib.ListN.{length, drop}
-use Rattle.grammar.specs.Finding.{line_length}
 use Rattle.grammar.proofs.LineEnds.{length-on, length-stops, length-ends}
 use Rattle.scanning.proofs.finding.line_length.Goals as goal
 

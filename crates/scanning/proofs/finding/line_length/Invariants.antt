@@ -1,9 +1,7 @@
 use Prim.Native.Nat.{◌≤◌, ◌+◌, ◌-◌}
 use mathlib.Core.Path.{◌≡◌}
-use native.Mathlib.Omega.{arith}
 use lib.ListN.{length, drop}
 use Rattle.grammar.specs.Finding.{line_length}
-use Rattle.grammar.proofs.LineEnds.{length-on, length-stops, length-ends}
 use Rattle.scanning.proofs.finding.line_length.Given as goal
 
 abbrev pub invariant-loop-i : goal.invariant-loop-i

@@ -1,9 +1,6 @@
 -- `scanning::numerals::digit_run` meets its contract.
-use Prim.Native.Nat.{◌≤◌, ◌+◌, ◌-◌}
-use mathlib.Core.Path.{◌≡◌}
 use native.Mathlib.Omega.{arith}
-use lib.ListN.{length, drop, get_or}
-use Rattle.grammar.specs.Grammar.{digit_run}
+use lib.ListN.{get_or}
 use Rattle.grammar.proofs.Digits.{is_digit_lem, below-digits, above-digits, run_on, run-stops, run_ends}
 use Rattle.scanning.proofs.numerals.digit_run.Goals as goal
 

@@ -1,9 +1,7 @@
 use Prim.Native.Nat.{◌≤◌, ◌+◌, ◌-◌}
 use mathlib.Core.Path.{◌≡◌}
-use native.Mathlib.Omega.{arith}
-use lib.ListN.{length, drop, get_or}
+use lib.ListN.{length, drop}
 use Rattle.grammar.specs.Grammar.{digit_run}
-use Rattle.grammar.proofs.Digits.{is_digit_lem, below-digits, above-digits, run_on, run-stops, run_ends}
 use Rattle.scanning.proofs.numerals.digit_run.Given as goal
 
 abbrev pub invariant-loop-i : goal.invariant-loop-i

@@ -1,7 +1,6 @@
 -- `scanning::numerals::read_number` meets its contract.
 use native.Mathlib.Omega.{arith}
 use Rattle.grammar.proofs.Digits.{no-digits, many-digits, too_large, a-number}
-use borrow.Author.Rules.{rules}
 use Rattle.scanning.proofs.numerals.read_number.Goals as goal
 
 pub returns-then-digits-eq0 : goal.returns-then-digits-eq0

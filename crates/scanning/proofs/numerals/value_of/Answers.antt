@@ -1,10 +1,7 @@
 -- `scanning::numerals::value_of` meets its contract.
-use Prim.Native.Nat.{◌≤◌, ◌-◌}
-use mathlib.Core.Path.{◌≡◌, sym, ◌∙◌}
+use mathlib.Core.Path.{sym, ◌∙◌}
 use native.Mathlib.Omega.{arith}
-use lib.ListN.{drop}
-use Rattle.grammar.specs.Grammar.{value_from}
-use Rattle.grammar.proofs.Digits.{Small, small-bound, small-on, value-starts, value_on, value-ends}
+use Rattle.grammar.proofs.Digits.{small-bound, small-on, value-starts, value_on, value-ends}
 use Rattle.scanning.proofs.numerals.value_of.Goals as goal
 
 pub loop-i-init : goal.loop-i-init
@@ -32,8 +29,7 @@ loop-i-smaller c = omega arith
 pub loop-i-preserved : goal.loop-i-preserved
 loop-i-preserved c =
     let l = c.loop-i in
-    let a = c.args in
-    (
+    let a = c.args in (
       omega arith,
       (
         (l.invariant.1.0 ∙ value_on a.text.now l.value a.digits l.i (omega arith) (omega arith)) ∙ simp c.ones.ensures.0,

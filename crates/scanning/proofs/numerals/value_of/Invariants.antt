@@ -1,9 +1,8 @@
 use Prim.Native.Nat.{◌≤◌, ◌-◌}
-use mathlib.Core.Path.{◌≡◌, sym, ◌∙◌}
-use native.Mathlib.Omega.{arith}
+use mathlib.Core.Path.{◌≡◌}
 use lib.ListN.{drop}
 use Rattle.grammar.specs.Grammar.{value_from}
-use Rattle.grammar.proofs.Digits.{Small, small-bound, small-on, value-starts, value_on, value-ends}
+use Rattle.grammar.proofs.Digits.{Small}
 use Rattle.scanning.proofs.numerals.value_of.Given as goal
 
 abbrev pub invariant-loop-i : goal.invariant-loop-i

@@ -1,7 +1,6 @@
 -- `Table::hand` meets its contract.
 use mathlib.Core.Path.{◌∙◌, ap}
 use Rattle.table.specs.Face.{answer_of, step_table}
-use borrow.Author.Rules.{rules}
 use Rattle.table.proofs.Table.hand.Goals as goal
 
 pub returns : goal.returns

@@ -1,7 +1,6 @@
 -- `Table::open` meets its contract.
 use mathlib.Core.Path.{◌∙◌, ap}
 use Rattle.table.specs.Face.{answer_of, open_table}
-use borrow.Author.Rules.{rules}
 use Rattle.table.proofs.Table.open.Goals as goal
 
 pub returns : goal.returns

@@ -1,14 +1,12 @@
 -- `written::lines::put_message` meets its contract.
 use native.Mathlib.Omega.{arith}
-use borrow.Author.Rules.{rules}
 use Rattle.text.proofs.RowParts.{message-parts}
 use Rattle.text.proofs.Placing.{put_then, put_same}
 use Rattle.written.proofs.lines.put_message.Goals as goal
 
 pub returns : goal.returns
 returns c =
-    let args = c.args in
-    (
+    let args = c.args in (
       put_same (message-parts args.i args.one)
           (put_then c.put_numbered-keyed.ensures.0
           (put_then c.put_ended-sent.ensures.0

@@ -1,7 +1,6 @@
 -- `written::place::put_text` meets its contract.
 use mathlib.Core.Path.{sym, ◌∙◌}
 use native.Mathlib.Omega.{arith}
-use borrow.Author.Rules.{rules}
 use Rattle.text.proofs.Placing.{put-past, place-within, place-past}
 use Rattle.written.proofs.place.put_text.Goals as goal
 

@@ -1,13 +1,11 @@
 -- `written::place::put_word` meets its contract.
-use Prim.Native.Nat.{◌≤◌, ◌-◌, zero-le}
+use Prim.Native.Nat.{zero-le}
 use mathlib.Core.Path.{sym}
 use native.Mathlib.Omega.{arith}
 use native.Mathlib.Numerals.{add-one}
-use lib.ListN.{length, take, length-take}
+use lib.ListN.{length-take}
 use lib.Seq.{take-suc, take_all}
-use borrow.Author.Rules.{rules}
-use Rattle.text.specs.Placing.{Put}
-use Rattle.text.proofs.Placing.{put-none, put_then, put_same, put-length}
+use Rattle.text.proofs.Placing.{put-none, put_then, put_same}
 use Rattle.written.proofs.place.put_word.Goals as goal
 
 pub loop-i-init : goal.loop-i-init
@@ -28,8 +26,7 @@ loop-i-smaller c = omega arith
 pub loop-i-preserved : goal.loop-i-preserved
 loop-i-preserved c =
     let word = c.args.word.now in
-    let i = c.loop-i.i in
-    (
+    let i = c.loop-i.i in (
       omega arith,
       put_same
           (sym (rw (add-one i, take-suc word i 0 c.loop-i-test.true)))

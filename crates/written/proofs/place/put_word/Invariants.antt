@@ -1,12 +1,6 @@
-use Prim.Native.Nat.{◌≤◌, ◌-◌, zero-le}
-use mathlib.Core.Path.{sym}
-use native.Mathlib.Omega.{arith}
-use native.Mathlib.Numerals.{add-one}
-use lib.ListN.{length, take, length-take}
-use lib.Seq.{take-suc, take_all}
-use borrow.Author.Rules.{rules}
+use Prim.Native.Nat.{◌≤◌, ◌-◌}
+use lib.ListN.{length, take}
 use Rattle.text.specs.Placing.{Put}
-use Rattle.text.proofs.Placing.{put-none, put_then, put_same, put-length}
 use Rattle.written.proofs.place.put_word.Given as goal
 
 abbrev pub invariant-loop-i : goal.invariant-loop-i

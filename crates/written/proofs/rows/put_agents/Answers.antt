@@ -1,11 +1,8 @@
 -- `written::rows::put_agents` meets its contract.
-use Prim.Native.Nat.{◌≤◌, ◌+◌, ◌*◌, ◌-◌, zero-le}
+use Prim.Native.Nat.{zero-le}
 use native.Mathlib.Omega.{arith}
-use Rattle.text.specs.Placing.{Put}
-use Rattle.text.specs.Text.{rows_below}
 use Rattle.text.specs.Rows.{agent_row}
 use Rattle.text.proofs.RowParts.{rows_none, rows_more, rows_all}
-use Rattle.text.proofs.Placing.{put-length}
 use Rattle.written.proofs.rows.put_agents.Goals as goal
 
 pub loop-i-init : goal.loop-i-init
@@ -31,8 +28,7 @@ loop-i-smaller c = omega arith
 
 pub loop-i-preserved : goal.loop-i-preserved
 loop-i-preserved c =
-    let put = c.put_agent-next.ensures in
-    (
+    let put = c.put_agent-next.ensures in (
       omega arith,
       rows_more (agent_row c.args.agent) c.loop-i.i c.loop-i.invariant.1 put.0,
       omega (arith, put.1, c.loop-i.invariant.2),

@@ -1,10 +1,7 @@
-use Prim.Native.Nat.{◌≤◌, ◌+◌, ◌*◌, ◌-◌, zero-le}
-use native.Mathlib.Omega.{arith}
+use Prim.Native.Nat.{◌≤◌, ◌+◌, ◌*◌, ◌-◌}
 use Rattle.text.specs.Placing.{Put}
 use Rattle.text.specs.Text.{rows_below}
 use Rattle.text.specs.Rows.{agent_row}
-use Rattle.text.proofs.RowParts.{rows_none, rows_more, rows_all}
-use Rattle.text.proofs.Placing.{put-length}
 use Rattle.written.proofs.rows.put_agents.Given as goal
 
 abbrev pub invariant-loop-i : goal.invariant-loop-i

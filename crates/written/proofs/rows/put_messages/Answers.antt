@@ -1,11 +1,8 @@
 -- `written::rows::put_messages` meets its contract.
-use Prim.Native.Nat.{◌≤◌, ◌+◌, ◌*◌, ◌-◌, zero-le}
+use Prim.Native.Nat.{zero-le}
 use native.Mathlib.Omega.{arith}
-use Rattle.text.specs.Placing.{Put}
-use Rattle.text.specs.Text.{rows_below}
 use Rattle.text.specs.Rows.{message_row}
 use Rattle.text.proofs.RowParts.{rows_none, rows_more, rows_all}
-use Rattle.text.proofs.Placing.{put-length}
 use Rattle.written.proofs.rows.put_messages.Goals as goal
 
 pub loop-i-init : goal.loop-i-init
@@ -56,8 +53,7 @@ loop-i-smaller c = omega arith
 pub loop-i-preserved : goal.loop-i-preserved
 loop-i-preserved c =
     let args = c.args in
-    let put = c.put_message-next.ensures in
-    (
+    let put = c.put_message-next.ensures in (
       omega arith,
       rows_more (message_row args.sender args.number args.addressee args.value args.status) c.loop-i.i c.loop-i.invariant.1 put.0,
       omega (arith, put.1, c.loop-i.invariant.2),

@@ -1,5 +1,4 @@
 -- `written::whole::put_table` meets its contract.
-use borrow.Author.Rules.{rules}
 use Rattle.text.proofs.RowParts.{table-parts}
 use Rattle.text.proofs.Placing.{put_then, put_same}
 use Rattle.written.proofs.whole.put_table.Goals as goal

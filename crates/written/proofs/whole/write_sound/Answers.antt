@@ -3,7 +3,6 @@ use Prim.Native.Nat.{ℕ}
 use mathlib.Core.Path.{sym, ap, ◌∙◌}
 use native.Mathlib.Nat.{zero-add}
 use native.Mathlib.Omega.{arith}
-use borrow.Author.Rules.{rules}
 use Rattle.records.specs.declared.Code.TheVariants.{Done}
 use Rattle.text.specs.Writing.{Wrote}
 use Rattle.text.proofs.Fitted.{too_long, fits, at_front_lem}
