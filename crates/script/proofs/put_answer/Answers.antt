@@ -1,15 +1,13 @@
 -- `script::put_answer` meets its contract.
-use Prim.Native.Nat.{ℕ, ◌≤◌}
-use mathlib.Core.Path.{◌≡◌, ap, ◌∙◌}
+use Prim.Native.Nat.{ℕ}
+use mathlib.Core.Path.{ap, ◌∙◌}
 use mathlib.Core.List.{List, [], ◌∷◌}
 use native.Mathlib.Nat.{zero-add}
 use native.Mathlib.Omega.{arith}
-use lib.ListN.{take}
 use Rattle.text.specs.Decimal.{decimal, bytes}
 use Rattle.text.specs.Text.{fields, row}
 use Rattle.text.proofs.Placing.{put_front}
 use Rattle.program.specs.Program.{answer_line}
-use borrow.Author.Rules.{rules}
 use Rattle.script.proofs.put_answer.Goals as goal
 
 pub slice_bounds-put_text-end : goal.slice_bounds-put_text-end
@@ -23,6 +21,6 @@ unfolding answer_line
 returns c =
     let line = c.answer_line-count in
     let line_showing : ℕ → List ℕ =
-        λ shown. row (bytes "line") c.args.k (fields (decimal shown ∷ decimal c.args.number ∷ [])) in
+    λ shown. row (bytes "line") c.args.k (fields (decimal shown ∷ decimal c.args.number ∷ [])) in
     let front = put_front (omega (arith, line.ensures.0.place, line.ensures.1)) line.ensures.0 in
     rw (← (front ∙ ap line_showing c.code_number-shown.ensures)) c.put_text.ensures

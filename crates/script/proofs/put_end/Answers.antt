@@ -2,7 +2,6 @@
 use Rattle.program.specs.Running.{run_end}
 use Rattle.program.proofs.Runs.{came_same, came-put}
 use Rattle.program.proofs.Turns.{when_true, when_false}
-use borrow.Author.Rules.{rules}
 use Rattle.script.proofs.put_end.Goals as goal
 
 pub returns-then-desk : goal.returns-then-desk

@@ -1,7 +1,6 @@
 -- `script::put_table` meets its contract.
 use native.Mathlib.Omega.{arith}
 use Rattle.program.proofs.Runs.{table-no-room, table-within, table-put}
-use borrow.Author.Rules.{rules}
 use Rattle.script.proofs.put_table.Goals as goal
 
 pub returns-then-output-at : goal.returns-then-output-at

@@ -1,5 +1,4 @@
 -- `script::run` meets its contract.
-use borrow.Author.Rules.{rules}
 use borrow.Author.Tests.{le-leb, lt-leb}
 use Rattle.program.specs.Running.{run_of}
 use Rattle.program.proofs.Runs.{came_same, came-put}

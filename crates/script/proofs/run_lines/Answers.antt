@@ -1,14 +1,10 @@
 -- `script::run_lines` meets its contract.
-use Prim.Native.Nat.{suc, ◌+◌, ◌≤◌}
-use mathlib.Core.Path.{◌≡◌, refl, sym, ◌∙◌}
+use Prim.Native.Nat.{suc}
+use mathlib.Core.Path.{refl, sym, ◌∙◌}
 use native.Mathlib.Omega.{arith}
-use lib.ListN.{length}
-use Rattle.grammar.specs.Lines.{lines_of}
-use Rattle.program.specs.Program.{no_desk}
-use Rattle.program.specs.Running.{from, at_front, run_lines}
+use Rattle.program.specs.Running.{from}
 use Rattle.grammar.proofs.LineEnds.{taken-within, taken-some}
 use Rattle.program.proofs.Runs.{came_same, part_length, turn_on, run_ends}
-use borrow.Author.Rules.{rules}
 use Rattle.script.proofs.run_lines.Goals as goal
 
 pub loop-rest-init : goal.loop-rest-init

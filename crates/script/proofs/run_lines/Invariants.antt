@@ -1,13 +1,9 @@
 use Prim.Native.Nat.{suc, ◌+◌, ◌≤◌}
-use mathlib.Core.Path.{◌≡◌, refl, sym, ◌∙◌}
-use native.Mathlib.Omega.{arith}
+use mathlib.Core.Path.{◌≡◌}
 use lib.ListN.{length}
 use Rattle.grammar.specs.Lines.{lines_of}
 use Rattle.program.specs.Program.{no_desk}
 use Rattle.program.specs.Running.{from, at_front, run_lines}
-use Rattle.grammar.proofs.LineEnds.{taken-within, taken-some}
-use Rattle.program.proofs.Runs.{came_same, part_length, turn_on, run_ends}
-use borrow.Author.Rules.{rules}
 use Rattle.script.proofs.run_lines.Given as goal
 
 abbrev pub invariant-loop-rest : goal.invariant-loop-rest
