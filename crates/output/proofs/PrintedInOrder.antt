@@ -42,7 +42,8 @@ unfolding output_from closing table_after steps_in take_line step_table
 open-ends t k [] = ([], refl)
 open-ends t k (l ∷ ls) = which (λ u. open-ends u (suc k) ls) (line_of l)
   where
-    which : ((u : State) → EndsWith (output_from (open_desk u) (suc k) ls) (written (table_after u (steps_in ls)))) → (x : Line) → EndsWith (turn_line k (take_line (open_desk t) x) ++ output_from (take_line (open_desk t) x).desk (suc k) ls) (written (table_after t (steps_with x (steps_in ls))))
+    which : ((u : State) → EndsWith (output_from (open_desk u) (suc k) ls) (written (table_after u (steps_in ls))))
+        → (x : Line) → EndsWith (turn_line k (take_line (open_desk t) x) ++ output_from (take_line (open_desk t) x).desk (suc k) ls) (written (table_after t (steps_with x (steps_in ls))))
     which rest Bad = further (turn_line k (take_line (open_desk t) Bad)) (rest t)
     which rest (Opening n) = further (turn_line k (take_line (open_desk t) (Opening n))) (rest t)
     which rest (Take s) = further (turn_line k (take_line (open_desk t) (Take s))) (rest (step_of t s).state)

@@ -28,7 +28,7 @@ pub bounds-status-i-then-goal-site : goal.bounds-status-i-then-goal-site
 bounds-status-i-then-goal-site c = omega (arith, (c.requires (not-false _ c.if-not-sound.false-raw)).messages)
 
 pub returns-then-goal-site : goal.returns-then-goal-site
-returns-then-goal-site c = search (hand-lost, tests, c, c.if-goal-site.true)
+returns-then-goal-site c = search (hand-lost, tests, c)
 
 pub bounds-status-i-2 : goal.bounds-status-i-2
 bounds-status-i-2 c = omega (arith, (c.requires (not-false _ c.if-not-sound.false-raw)).messages)
@@ -37,4 +37,4 @@ pub overflow_add-t : goal.overflow_add-t
 overflow_add-t c = omega (arith, (c.requires (not-false _ c.if-not-sound.false-raw)).handed)
 
 pub returns : goal.returns
-returns c = search (hand-done, tests, c, c)
+returns c = search (hand-done, tests, c)
