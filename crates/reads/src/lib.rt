@@ -8,9 +8,8 @@ ghost use Rattle.reads.specs.Reading.{FillsFront};
 use std::io;
 use std::io::Read;
 
-// Reads until the buffer is full or the input ends, and answers how many bytes it put at the front of the buffer. Where a read fails, its
-// error is answered, and what was read before it stands at the buffer's front. A read that fails, an
-// interrupted one among them, ends it with that error.
+// Reads until the buffer is full or the input ends, and answers how many bytes it put at the front of the buffer. A read that fails, an
+// interrupted one among them, ends it with that error; what was read before it then stands at the buffer's front.
 pub fn read_full<R: Read>(input: &mut R, buf: &mut [u8]) -> io::Result<usize>
     ensures within { IfOk result (λ n. n ≤ length buf.new) }
     ensures bytes { IfOk result (λ n. Consumes (R.remaining input.old) (R.remaining input.new) (take n buf.new)) }
