@@ -1,144 +1,70 @@
-// The steps of a delivery: forward, hand, close.
+// The rules of a delivery: forward, hand, close. Each changes a table in place, and stands on every table, sound or not: a place past
+// an array reads as its filling.
 #![tactic(auto)]
 
-ghost use Rattle.std.specs.Prelude.{◌≡◌};
-ghost use Rattle.records.specs.declared.Code.TheVariants.{BadState};
-ghost use Rattle.rules.specs.Answers.{unless};
-ghost use Rattle.rules.specs.Fitting.{FitIfSound};
-ghost use Rattle.rules.specs.Steps.{forward_rule, hand_rule, close_rule, step_of};
+ghost use Rattle.std.specs.Prelude.{◌≡◌, ◌≤◌};
+ghost use Rattle.records.specs.Limits.{most_messages};
+ghost use Rattle.rules.specs.Answers.{reply_of};
+ghost use Rattle.rules.specs.Steps.{forward_rule, hand_rule, close_rule};
 
-use parts::{agent_in, done, is_sound, log_put, refused};
-use records::agents::{is_mapped, map_site};
-use records::locks::{holding, is_unheld};
-use records::messages::{HANDED, OUT, QUEUED, standing, status_kind, travels_to};
+use readers::message_at;
+use records::agents::empty_agent;
+use records::places::{get_or, set_at};
 use records::{Code, Lock, MailNo, Status};
-use rules::{Reply, State, Step};
+use rules::{State, Taken};
 
-// A queued message goes out to its addressee's site, with the lock held for it.
-pub fn forward(t: State, m: MailNo) -> Reply
-    ensures { result ≡ step_of t (Step.Forward m) }
+// A queued message goes out to its addressee's site. The lock stays held for it until it is closed, so that its addressee cannot leap
+// away from it.
+#[tactic(auto, unfolding(rules::specs::Steps::forward_rule))]
+pub fn forward_rule(t: &mut State, m: MailNo) -> Result<Taken, Code>
+    ensures { reply_of t.new result ≡ forward_rule t.old m }
 {
-    let sound = is_sound(t);
-    forward_rule(t, sound, m)
-}
-
-// An out message reaches its site.
-pub fn hand(t: State, m: MailNo) -> Reply
-    ensures { result ≡ step_of t (Step.Hand m) }
-{
-    let sound = is_sound(t);
-    hand_rule(t, sound, m)
-}
-
-// A handed message is over, and the lock is free.
-pub fn close(t: State, m: MailNo) -> Reply
-    ensures { result ≡ step_of t (Step.Close m) }
-{
-    let sound = is_sound(t);
-    close_rule(t, sound, m)
-}
-
-// The lock stays held until the message is closed, so that its addressee cannot leap away from it.
-fn forward_rule(mut t: State, sound: bool, m: MailNo) -> Reply
-    requires { FitIfSound sound t }
-    ensures { result ≡ unless sound BadState t (forward_rule t m) }
-{
-    if !sound {
-        return refused(t, Code::BadState);
+    let one = message_at(t, m).ok_or(Code::NoMessage)?;
+    if one.status != Status::Queued {
+        return Err(Code::OutOfTurn);
     }
-    let messages = t.messages;
-    if messages <= m.0 {
-        return refused(t, Code::NoMessage);
+    if t.lock != Lock::Unheld {
+        return Err(Code::LockHeld);
     }
-    let i = m.0 as usize;
-    let mut status = t.status;
-    let stand = status[i];
-    let now = stand.status;
-    if status_kind(now) != QUEUED {
-        return refused(t, Code::OutOfTurn);
-    }
-    let held = t.held;
-    let lock = held.lock;
-    if !is_unheld(lock) {
-        return refused(t, Code::LockHeld);
-    }
-    let addressee = t.addressee;
-    let agent = t.agent;
-    let one = agent_in(agent, addressee[i]);
-    let map = one.map;
-    if !is_mapped(map) {
-        return refused(t, Code::NotEnrolled);
-    }
-    let site = map_site(map);
-    status[i] = standing(Status::Out(site));
-    let taken = holding(Lock::ForMail(m));
-    t.held = taken;
-    t.status = status;
-    done(t, 0)
+    let Some(site) = get_or(&t.agent, one.addressee.0, empty_agent()).map else {
+        return Err(Code::NotEnrolled);
+    };
+    set_at(&mut t.status, m.0, Status::Out(site));
+    t.lock = Lock::ForMail(m);
+    Ok(Taken::Done(0))
 }
 
 // A message that finds its addressee at the site it travelled to joins the log. One that does not is lost, and the lock stays as
-// it is; no sound table comes to that.
-fn hand_rule(mut t: State, sound: bool, m: MailNo) -> Reply
-    requires { FitIfSound sound t }
-    ensures { result ≡ unless sound BadState t (hand_rule t m) }
+// it is; no sound table comes to that. Nothing is said of a log that is longer than its array: it may be too long to count on.
+#[tactic(auto, unfolding(rules::specs::Steps::hand_rule))]
+pub fn hand_rule(t: &mut State, m: MailNo) -> Result<Taken, Code>
+    ensures { t.old.handed ≤ most_messages → reply_of t.new result ≡ hand_rule t.old m }
 {
-    if !sound {
-        return refused(t, Code::BadState);
+    let one = message_at(t, m).ok_or(Code::NoMessage)?;
+    let Status::Out(site) = one.status else {
+        return Err(Code::OutOfTurn);
+    };
+    if site != get_or(&t.agent, one.addressee.0, empty_agent()).site {
+        set_at(&mut t.status, m.0, Status::Lost);
+        return Ok(Taken::Done(0));
     }
-    let messages = t.messages;
-    if messages <= m.0 {
-        return refused(t, Code::NoMessage);
-    }
-    let i = m.0 as usize;
-    let mut status = t.status;
-    let stand = status[i];
-    let now = stand.status;
-    if status_kind(now) != OUT {
-        return refused(t, Code::OutOfTurn);
-    }
-    let goal = travels_to(now);
-    let addressee = t.addressee;
-    let agent = t.agent;
-    let one = agent_in(agent, addressee[i]);
-    let site = one.site;
-    if goal.0 != site.0 {
-        status[i] = standing(Status::Lost);
-        t.status = status;
-        return done(t, 0);
-    }
-    status[i] = standing(Status::Handed);
+    set_at(&mut t.status, m.0, Status::Handed);
     let handed = t.handed;
-    let log = t.log;
-    let longer = log_put(log, handed, m);
-    t.status = status;
-    t.log = longer;
-    t.handed = handed + 1;
-    done(t, 0)
+    set_at(&mut t.log, handed, m);
+    t.handed = handed.saturating_add(1);
+    Ok(Taken::Done(0))
 }
 
-// With the message closed the lock is free for the next.
-fn close_rule(mut t: State, sound: bool, m: MailNo) -> Reply
-    requires { FitIfSound sound t }
-    ensures { result ≡ unless sound BadState t (close_rule t m) }
+// A handed message is over, and the lock is free for the next.
+#[tactic(auto, unfolding(rules::specs::Steps::close_rule))]
+pub fn close_rule(t: &mut State, m: MailNo) -> Result<Taken, Code>
+    ensures { reply_of t.new result ≡ close_rule t.old m }
 {
-    if !sound {
-        return refused(t, Code::BadState);
+    let one = message_at(t, m).ok_or(Code::NoMessage)?;
+    if one.status != Status::Handed {
+        return Err(Code::OutOfTurn);
     }
-    let messages = t.messages;
-    if messages <= m.0 {
-        return refused(t, Code::NoMessage);
-    }
-    let i = m.0 as usize;
-    let mut status = t.status;
-    let stand = status[i];
-    let now = stand.status;
-    if status_kind(now) != HANDED {
-        return refused(t, Code::OutOfTurn);
-    }
-    status[i] = standing(Status::Closed);
-    let free = holding(Lock::Unheld);
-    t.held = free;
-    t.status = status;
-    done(t, 0)
+    set_at(&mut t.status, m.0, Status::Closed);
+    t.lock = Lock::Unheld;
+    Ok(Taken::Done(0))
 }

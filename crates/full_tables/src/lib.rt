@@ -7,12 +7,10 @@ use table::Table;
 // Fills a table of one agent up to `count` agents, each made by agent 0 and free.
 pub fn with_agents(first: Table, count: u32) -> Table {
     let mut t = first;
-    let mut child: u32 = 1;
-    while child < count {
+    for child in 1..count {
         let spawned = t.spawn(AgentNo(0)).table;
         let enrolled = spawned.enrol(AgentNo(child)).table;
         t = enrolled.greet(AgentNo(child)).table;
-        child += 1;
     }
     t
 }
@@ -20,8 +18,7 @@ pub fn with_agents(first: Table, count: u32) -> Table {
 // Fills a full table of agents up to `count` messages, each closed: one from every agent in turn, to the next one.
 pub fn with_messages(first: Table, count: u32) -> Table {
     let mut t = first;
-    let mut m: u32 = 0;
-    while m < count {
+    for m in 0..count {
         let from = m % Table::MOST_AGENTS;
         let to = (from + 1) % Table::MOST_AGENTS;
         let sent = t
@@ -30,7 +27,6 @@ pub fn with_messages(first: Table, count: u32) -> Table {
         let out = sent.forward(MailNo(m)).table;
         let handed = out.hand(MailNo(m)).table;
         t = handed.close(MailNo(m)).table;
-        m += 1;
     }
     t
 }
@@ -38,10 +34,8 @@ pub fn with_messages(first: Table, count: u32) -> Table {
 // Fills a table up to `count` messages of agent 0 to itself, queued.
 pub fn with_own_messages(first: Table, count: u32) -> Table {
     let mut t = first;
-    let mut m: u32 = 0;
-    while m < count {
+    for m in 0..count {
         t = t.send(AgentNo(0), m + 1, AgentNo(0), m).table;
-        m += 1;
     }
     t
 }

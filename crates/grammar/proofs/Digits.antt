@@ -1,44 +1,25 @@
 -- The digits at the front of a text, one more at a time: what the loops over them go by.
-use Prim.Native.Nat.{ℕ, suc, ◌+◌, ◌*◌, ◌-◌, ◌^◌, ◌≤◌, ◌<◌}
-use native.Mathlib.Omega.{arith}
-use native.Mathlib.Nat.{pow-suc, pow-le-pow_right, sub-zero}
+use Rattle.std.proofs.Common.{ℕ, zero, suc, ◌+◌, ◌*◌, ◌-◌, ◌^◌, ◌≤◌, ◌<◌, Bool, true, false, cond, ◌&&◌, leb, List, [], ◌∷◌, Option, Some, None, length, take, drop, get_or, ◌≡◌, refl, ap, inl, inr, arith}
+use Rattle.std.proofs.lemmas.List.Recursion.{same_from_clauses}
+use Rattle.std.proofs.lemmas.List.Sums.{prefix_len-le-length}
+use Rattle.std.specs.Char.{is_ascii_digit}
+use Rattle.std.specs.Int.{IsOutOfRange}
+use Rattle.std.specs.List.{prefix_len}
+use native.Mathlib.Nat.{pow-suc}
 use native.Mathlib.Numerals.{add-one}
-use mathlib.Core.Path.{◌≡◌}
-use mathlib.Core.Bool.{true, false}
-use mathlib.Core.List.{List}
-use lib.ListN.{length, drop, get_or, drop_of_length-le}
+use Rattle.std.proofs.Math.Bool.{and-false}
 use lib.Seq.{drop-cons}
 use borrow.Author.Tests.{le-leb, lt-leb}
-use Rattle.grammar.specs.declared.Numeral.TheVariants.{NoNumber, Number}
+use Rattle.grammar.specs.declared.Numeral.{Numeral}
 use Rattle.grammar.specs.Grammar.{most_number, is_digit, digit_run, value_from, numeral_of}
 
--- a byte from 48 to 57 is a digit, and no other is
-pub is_digit_lem : (b : ℕ) → 48 ≤ b → b ≤ 57 → is_digit b ≡ true
-is_digit_lem b low high = simp (le-leb 48 b low, le-leb b 57 high)
-
-pub below-digits : (b : ℕ) → b < 48 → is_digit b ≡ false
-below-digits b low = simp (lt-leb 48 b low)
-
-pub above-digits : (b : ℕ) → 57 < b → is_digit b ≡ false
-above-digits b high = simp (le-leb 48 b (omega arith), lt-leb b 57 high)
-
--- the run from a place on: one longer at a digit, over at any other byte and at the end
-pub run_on : (bs : List ℕ) (i : ℕ) → i < length bs → is_digit (get_or bs i 0) ≡ true → digit_run (drop i bs) ≡ suc (digit_run (drop (i + 1) bs))
+-- the digits at the front of a text are as many as ASCII's that stand there
+pub run-counted : (bs : List ℕ) → prefix_len is_ascii_digit bs ≡ digit_run bs
 unfolding digit_run
-run_on bs i h d = rw (add-one i, drop-cons bs i 0, d)
+run-counted bs =
+    same_from_clauses (prefix_len is_ascii_digit) digit_run (λ b n. cond (is_ascii_digit b) (1 + n) 0) refl (λ b rest. refl) (λ b rest. ap (λ n. cond (is_digit b) n 0) (omega arith)) bs
 
-pub run-stops : (bs : List ℕ) (i : ℕ) → i < length bs → is_digit (get_or bs i 0) ≡ false → digit_run (drop i bs) ≡ 0
-unfolding digit_run
-run-stops bs i h d = rw (drop-cons bs i 0, d)
-
-pub run_ends : (bs : List ℕ) (i : ℕ) → length bs ≤ i → digit_run (drop i bs) ≡ 0
-unfolding digit_run
-run_ends bs i h = rw (drop_of_length-le bs h)
-
--- the value: of all digits at first, one digit further in each turn, and what was read once none is left
-pub value-starts : (bs : List ℕ) (n : ℕ) → value_from 0 n bs ≡ value_from 0 (n - 0) bs
-value-starts bs n = simp sub-zero
-
+-- the value: one digit further in each turn, and what was read once none is left
 pub value_on :
     (bs : List ℕ) (v n i : ℕ)
     → i < n
@@ -55,32 +36,46 @@ value-ends bs v n i h =
     let e : n - i ≡ 0 = omega arith in
     rw e
 
+-- the value of the first n bytes is read in them alone
+pub value-taken : (v n : ℕ) (bs : List ℕ) → value_from v (length (take n bs)) (take n bs) ≡ value_from v n bs
+unfolding value_from
+value-taken v zero bs = refl
+value-taken v (suc n) [] = refl
+value-taken v (suc n) (b ∷ bs) = value-taken (v * 10 + (b - 48)) n bs
+
 -- what i bytes come to is far below 64 bits
 abbrev pub Small : ℕ → ℕ → Type 0
 Small v i = v + 256 ≤ 256 * 10 ^ i
-
-pub small-bound : (v i : ℕ) → Small v i → i ≤ 10 → v < 2560000000000
-small-bound v i s h =
-    let p : 10 ^ i ≤ 10 ^ 10 = pow-le-pow_right (omega arith) h in
-    omega arith
 
 pub small-on : (v d i : ℕ) → Small v i → d < 256 → Small (v * 10 + d) (i + 1)
 small-on v d i s h = rw (add-one i, pow-suc 10 i) (omega arith)
 
 -- a number by its tests
 module _ (bs : List ℕ) (n : ℕ) (run : n ≡ digit_run bs) where
-  pub no-digits : n ≡ 0 → NoNumber ≡ numeral_of bs
+  pub not-so_many : IsOutOfRange 1 10 n → None ≡ numeral_of bs
   unfolding numeral_of
-  no-digits h = simp (← run, lt-leb 1 n (omega arith))
+  not-so_many (inl few) = simp (← run, lt-leb 1 n few)
+  not-so_many (inr many) = simp (← run, le-leb 1 n (omega arith), lt-leb n 10 many)
 
-  pub many-digits : 10 < n → NoNumber ≡ numeral_of bs
+  pub too_large : (v : ℕ) → v ≡ value_from 0 n bs → most_number < v → None ≡ numeral_of bs
   unfolding numeral_of
-  many-digits h = simp (← run, le-leb 1 n (omega arith), lt-leb n 10 h)
+  too_large v e h = simp (← run, ← e, lt-leb v most_number h, and-false)
 
-  pub too_large : (v : ℕ) → v ≡ value_from 0 n bs → 1 ≤ n → n ≤ 10 → most_number < v → NoNumber ≡ numeral_of bs
-  unfolding numeral_of
-  too_large v e low high h = simp (← run, ← e, le-leb 1 n low, le-leb n 10 high, lt-leb v most_number h)
-
-  pub a-number : (v : ℕ) → v ≡ value_from 0 n bs → 1 ≤ n → n ≤ 10 → v ≤ most_number → Number v n ≡ numeral_of bs
+  pub a-number : (v : ℕ) → v ≡ value_from 0 n bs → 1 ≤ n → n ≤ 10 → v ≤ most_number → Some (record { value = v; taken = n }) ≡ numeral_of bs
   unfolding numeral_of
   a-number v e low high h = simp (← run, ← e, le-leb 1 n low, le-leb n 10 high, le-leb v most_number h)
+
+-- a number takes no more bytes than there are
+abbrev taken_in : Option Numeral → ℕ
+taken_in None = 0
+taken_in (Some x) = x.taken
+
+within-by : (t : Bool) (v n m : ℕ) → n ≤ m → taken_in (cond t (Some (record { value = v; taken = n })) None) ≤ m
+within-by true v n m h = h
+within-by false v n m h = omega arith
+
+pub number-within : (bs : List ℕ) (x : Numeral) → Some x ≡ numeral_of bs → x.taken ≤ length bs
+unfolding numeral_of
+number-within bs x e =
+    let run : digit_run bs ≤ length bs = rw (← run-counted bs) (prefix_len-le-length is_ascii_digit bs) in
+    rw (ap taken_in e) (within-by (leb 1 (digit_run bs) && (leb (digit_run bs) 10 && leb (value_from 0 (digit_run bs) bs) most_number)) (value_from 0 (digit_run bs) bs) (digit_run bs) (length bs) run)

@@ -1,36 +1,34 @@
 -- Where the first line of a text ends, and what the lines of a text are by it.
-use Prim.Native.Nat.{ℕ, zero, suc, ◌+◌, ◌≤◌, ◌<◌}
-use native.Mathlib.Omega.{arith}
-use native.Mathlib.Numerals.{add-one}
-use mathlib.Core.Path.{◌≡◌, refl}
-use mathlib.Core.Bool.{Bool, true, false, cond}
-use mathlib.Core.List.{List, [], ◌∷◌}
-use lib.ListN.{length, drop, get_or, drop_of_length-le}
-use lib.Seq.{drop-cons}
-use lib.Dec.{eqb, ltb, leb-suc-suc}
-use borrow.Author.Tests.{eq-eqb, ne_eqb, lt-ltb, le-ltb, ltb-true, ltb-false}
-use Rattle.grammar.specs.Lines.{lines_of}
+use Rattle.std.proofs.Common.{ℕ, zero, suc, ◌≤◌, ◌<◌, Bool, true, false, cond, List, [], ◌∷◌, Option, Some, None, length, eqb, ltb, ◌≡◌, refl, ap, arith}
+use Rattle.std.proofs.lemmas.Bool.{lt-ltb, ltb-true, ltb-false}
+use Rattle.std.proofs.lemmas.List.Recursion.{is_position_or_len}
+use Rattle.std.proofs.Math.Dec.{leb-suc-suc}
+use Rattle.std.proofs.Math.Nat.{lt_irrefl}
+use Rattle.std.specs.List.{position}
+use Rattle.std.specs.Option.{unwrap_or}
+use Rattle.grammar.specs.Lines.{ahead, lines_of}
 use Rattle.grammar.specs.Finding.{line_length, first_line, line_taken, after_line}
 
--- the line from a place on: one longer at any byte but 10, over at byte 10 and at the end
-pub length-on : (bs : List ℕ) (i : ℕ) → i < length bs → (get_or bs i 0 ≡ 10 → ⊥) → line_length (drop i bs) ≡ suc (line_length (drop (i + 1) bs))
+-- the first line is no longer than the text
+length-by : (bs : List ℕ) (b : ℕ) (t : Bool) → line_length bs ≤ length bs → cond t zero (suc (line_length bs)) ≤ suc (length bs)
+length-by bs b true h = omega arith
+length-by bs b false h = omega arith
+
+pub length-within : (bs : List ℕ) → line_length bs ≤ length bs
 unfolding line_length
-length-on bs i h d = rw (add-one i, drop-cons bs i 0, ne_eqb (get_or bs i 0) 10 d)
+length-within [] = omega arith
+length-within (b ∷ bs) = length-by bs b (eqb b 10) (length-within bs)
 
-pub length-stops : (bs : List ℕ) (i : ℕ) → i < length bs → get_or bs i 0 ≡ 10 → line_length (drop i bs) ≡ 0
+-- the line's length is the first place of a byte 10, or the text's length
+pub length-found : (bs : List ℕ) (r : Option ℕ) → r ≡ position (λ b. eqb b 10) bs → unwrap_or r (length bs) ≡ line_length bs
 unfolding line_length
-length-stops bs i h d = rw (drop-cons bs i 0, eq-eqb (get_or bs i 0) 10 d)
-
-pub length-ends : (bs : List ℕ) (i : ℕ) → length bs ≤ i → line_length (drop i bs) ≡ 0
-unfolding line_length
-length-ends bs i h = rw (drop_of_length-le bs h)
-
--- how many bytes a line takes, with a byte 10 behind it and without
-pub taken-with-end : (bs : List ℕ) (n : ℕ) → n ≡ line_length bs → n < length bs → n + 1 ≡ line_taken bs
-taken-with-end bs n e h = simp (add-one, ← e, lt-ltb n (length bs) h)
-
-pub taken-to-end : (bs : List ℕ) (n : ℕ) → n ≡ line_length bs → length bs ≤ n → n ≡ line_taken bs
-taken-to-end bs n e h = simp (← e, le-ltb n (length bs) h)
+length-found bs r e =
+    let place = is_position_or_len line_length (λ b. eqb b 10) refl (λ b rest. ap (λ n. cond (eqb b 10) 0 n) (omega arith)) bs in
+    rw (e, ← place) (by (ltb (line_length bs) (length bs)) refl)
+  where
+    by : (t : Bool) → ltb (line_length bs) (length bs) ≡ t → unwrap_or (cond t (Some (line_length bs)) None) (length bs) ≡ line_length bs
+    by true inside = refl
+    by false past = omega (arith, length-within bs, ltb-false (line_length bs) (length bs) past)
 
 -- at byte 10 the first line is over; at another byte it is that byte and the first line of the rest
 taken-stops : (b : ℕ) (bs : List ℕ) → eqb b 10 ≡ true → line_taken (b ∷ bs) ≡ 1
@@ -61,19 +59,10 @@ pub lines-by-first : (b : ℕ) (bs : List ℕ) → lines_of (b ∷ bs) ≡ first
 lines-by-first b bs = lines-first bs b (eqb b 10) refl
 
 pub lines-of-some : (bs : List ℕ) → 0 < length bs → lines_of bs ≡ first_line bs ∷ lines_of (after_line bs)
-lines-of-some [] h = let z : ◌≡◌ {A = ℕ} 0 1 = omega arith in cc
+lines-of-some [] h = elim (lt_irrefl 0 h) [ ]
 lines-of-some (b ∷ bs) h = lines-by-first b bs
 
 -- a line takes no more bytes than there are, and some where there are any
-length-by : (bs : List ℕ) (b : ℕ) (t : Bool) → line_length bs ≤ length bs → cond t zero (suc (line_length bs)) ≤ suc (length bs)
-length-by bs b true h = omega arith
-length-by bs b false h = omega arith
-
-length-within : (bs : List ℕ) → line_length bs ≤ length bs
-unfolding line_length
-length-within [] = omega arith
-length-within (b ∷ bs) = length-by bs b (eqb b 10) (length-within bs)
-
 taken-by : (n m : ℕ) (t : Bool) → ltb n m ≡ t → n ≤ m → cond t (suc n) n ≤ m
 taken-by n m true e h = ltb-true n m e
 taken-by n m false e h = h
@@ -87,3 +76,14 @@ some-by n m false e h = omega (arith, ltb-false n m e)
 
 pub taken-some : (bs : List ℕ) → 0 < length bs → 0 < line_taken bs
 taken-some bs h = some-by (line_length bs) (length bs) (ltb (line_length bs) (length bs)) refl h
+
+-- no more lines than bytes
+pub lines-within : (bs : List ℕ) → length (lines_of bs) ≤ length bs
+unfolding lines_of
+lines-within [] = omega arith
+lines-within (b ∷ bs) = by (eqb b 10) (lines_of bs) (lines-within bs)
+  where
+    by : (t : Bool) (ls : List (List ℕ)) → length ls ≤ length bs → length (cond t ([] ∷ ls) (ahead b ls)) ≤ suc (length bs)
+    by true ls h = omega arith
+    by false [] h = omega arith
+    by false (l ∷ ls) h = omega arith

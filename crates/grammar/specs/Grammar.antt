@@ -1,13 +1,12 @@
 -- A script line: a word, `=`, and numbers with commas between them. Assumes nothing.
 use Prim.Native.String.{String}
-use Rattle.std.specs.Prelude.{ℕ, zero, suc, ◌+◌, ◌*◌, ◌-◌, Bool, cond, ◌&&◌, List, [], ◌∷◌, drop, get_or, leb, eqb}
+use Rattle.std.specs.Prelude.{ℕ, zero, suc, ◌+◌, ◌*◌, ◌-◌, Bool, cond, ◌&&◌, List, [], ◌∷◌, drop, get_or, leb, eqb, Option, Some, None}
 use Rattle.records.specs.Numbers.{agent_no, site_no, mail_no}
 use Rattle.rules.specs.declared.Step.TheVariants.{Spawn, Ask, Send, Enrol, Greet, Grant, Leap, Book, Settle, Forward, Hand, Close}
 use Rattle.text.specs.Decimal.{bytes}
 use Rattle.grammar.specs.declared.Line.{Line}
 use Rattle.grammar.specs.declared.Line.TheVariants.{Bad, Opening, Take}
 use Rattle.grammar.specs.declared.Numeral.{Numeral}
-use Rattle.grammar.specs.declared.Numeral.TheVariants.{NoNumber, Number}
 
 -- the largest number of a script
 abbrev pub most_number : ℕ
@@ -29,52 +28,44 @@ value_from before (suc n) [] = before
 value_from before (suc n) (b ∷ bs) = value_from (before * 10 + (b - 48)) n bs
 
 -- a number at the front of a text: 1 to 10 digits, leading zeros among them, and no other digit after them; at most 4,294,967,295
-unfoldable pub numeral_of : List ℕ → Numeral
+unfoldable pub numeral_of : List ℕ → Option Numeral
 unfolding digit_run value_from
 numeral_of bs =
     cond (leb 1 (digit_run bs) && (leb (digit_run bs) 10 && leb (value_from 0 (digit_run bs) bs) most_number))
-    (Number (value_from 0 (digit_run bs) bs) (digit_run bs))
-    NoNumber
+    (Some (record { value = value_from 0 (digit_run bs) bs; taken = digit_run bs }))
+    None
 
--- the numbers of a line
-pub data Numbers : Type 0 where
-  none : Numbers
-  some : List ℕ → Numbers
-
-abbrev pub and_then : ℕ → Numbers → Numbers
-and_then v none = none
-and_then v (some vs) = some (v ∷ vs)
+-- the numbers of a line, where it has them: a number before the others
+abbrev pub and_then : ℕ → Option (List ℕ) → Option (List ℕ)
+and_then v None = None
+and_then v (Some vs) = Some (v ∷ vs)
 
 -- after a comma
-abbrev pub past_comma : List ℕ → (List ℕ → Numbers) → Numbers
-past_comma [] next = none
-past_comma (b ∷ bs) next = cond (eqb b 44) (next bs) none
+abbrev pub past_comma : List ℕ → (List ℕ → Option (List ℕ)) → Option (List ℕ)
+past_comma [] next = None
+past_comma (b ∷ bs) next = cond (eqb b 44) (next bs) None
 
-abbrev pub at_end : List ℕ → Numbers
-at_end [] = some []
-at_end (b ∷ bs) = none
+abbrev pub at_end : List ℕ → Option (List ℕ)
+at_end [] = Some []
+at_end (b ∷ bs) = None
 
 -- a number, and then what is to follow it
-abbrev pub then_numbers : Numeral → List ℕ → (List ℕ → Numbers) → Numbers
-then_numbers NoNumber bs next = none
-then_numbers (Number v n) bs next = and_then v (next (drop n bs))
+abbrev pub then_numbers : Option Numeral → List ℕ → (List ℕ → Option (List ℕ)) → Option (List ℕ)
+then_numbers None bs next = None
+then_numbers (Some x) bs next = and_then x.value (next (drop x.taken bs))
 
 -- so many numbers with commas between them, and nothing after
-unfoldable pub numbers_of : ℕ → List ℕ → Numbers
+unfoldable pub numbers_of : ℕ → List ℕ → Option (List ℕ)
 unfolding numeral_of
-numbers_of zero bs = none
+numbers_of zero bs = None
 numbers_of (suc zero) bs = then_numbers (numeral_of bs) bs (λ rest. at_end rest)
 numbers_of (suc (suc n)) bs = then_numbers (numeral_of bs) bs (λ rest. past_comma rest (λ more. numbers_of (suc n) more))
 
--- what stands after a word that a text begins with
-pub data After : Type 0 where
-  other : After
-  after : List ℕ → After
-
-unfoldable pub after_word : List ℕ → List ℕ → After
-after_word [] bs = after bs
-after_word (w ∷ ws) [] = other
-after_word (w ∷ ws) (b ∷ bs) = cond (eqb w b) (after_word ws bs) other
+-- what stands after a word, where a text begins with it
+unfoldable pub after_word : List ℕ → List ℕ → Option (List ℕ)
+after_word [] bs = Some bs
+after_word (w ∷ ws) [] = None
+after_word (w ∷ ws) (b ∷ bs) = cond (eqb w b) (after_word ws bs) None
 
 -- a kind of line: its word with `=`, how many numbers it has, and what they say
 pub record Kind : Type 0 where
@@ -115,13 +106,13 @@ kinds =
     ∷ []
 
 -- a line of a kind, or else what another kind makes of it
-abbrev pub said_by : Kind → Numbers → Line
-said_by k none = Bad
-said_by k (some vs) = k.says vs
+abbrev pub said_by : Kind → Option (List ℕ) → Line
+said_by k None = Bad
+said_by k (Some vs) = k.says vs
 
-abbrev pub by_kind : Kind → After → Line → Line
-by_kind k other elsewise = elsewise
-by_kind k (after bs) elsewise = said_by k (numbers_of k.count bs)
+abbrev pub by_kind : Kind → Option (List ℕ) → Line → Line
+by_kind k None elsewise = elsewise
+by_kind k (Some bs) elsewise = said_by k (numbers_of k.count bs)
 
 unfoldable pub line_among : List Kind → List ℕ → Line
 unfolding after_word numbers_of

@@ -4,7 +4,7 @@
 
 use rules::Step;
 
-// A script line, taken apart.
+// A script line, taken apart. Bad is a variant of its own, since the three are told apart in one match.
 #[derive(Clone, Copy)]
 pub enum Line {
     // not in the grammar
@@ -14,25 +14,9 @@ pub enum Line {
     Take(Step),
 }
 
-// A number at the front of a text: its value and how many bytes it took, or none in the grammar.
+// A number at the front of a text: its value, and how many bytes it took.
 #[derive(Clone, Copy)]
-pub enum Numeral {
-    NoNumber,
-    Number(u32, usize),
-}
-
-// The words of the lines of one number.
-#[derive(Clone, Copy)]
-pub enum Word {
-    Sites,
-    Spawning,
-    Enrolling,
-    Greeting,
-    Granting,
-    Leaping,
-    Booking,
-    Settling,
-    Forwarding,
-    Handing,
-    Closing,
+pub struct Numeral {
+    pub value: u32,
+    pub taken: usize,
 }

@@ -1,121 +1,61 @@
-// A move under the lock: grant, leap and book.
+// The rules of a move under the lock: grant, leap and book. Each changes a table in place, and stands on every table, sound or not: a
+// place past an array reads as its filling.
 #![tactic(auto)]
 
 ghost use Rattle.std.specs.Prelude.{◌≡◌};
-ghost use Rattle.records.specs.declared.Code.TheVariants.{BadState};
-ghost use Rattle.rules.specs.Answers.{unless};
-ghost use Rattle.rules.specs.Steps.{grant_rule, leap_rule, book_rule, step_of};
+ghost use Rattle.rules.specs.Answers.{reply_of};
+ghost use Rattle.rules.specs.Steps.{grant_rule, leap_rule, book_rule};
 
-use parts::{agent_in, agent_put, done, is_sound, refused};
-use records::agents::{
-    ASKING, GRANTED, LANDED, mapped_here, moved_to, phase_kind, target_of, with_phase,
-};
-use records::locks::{holding, is_unheld};
+use readers::agent_at;
+use records::places::set_at;
 use records::{AgentNo, Code, Lock, Phase};
-use rules::{Reply, State, Step};
+use rules::{State, Taken};
 
-// The lock is taken for the move of an asking agent.
-pub fn grant(t: State, a: AgentNo) -> Reply
-    ensures { result ≡ step_of t (Step.Grant a) }
+// The lock is taken for the move of an asking agent. The map entry stays: the agent is still where it was.
+#[tactic(auto, unfolding(rules::specs::Steps::grant_rule))]
+pub fn grant_rule(t: &mut State, a: AgentNo) -> Result<Taken, Code>
+    ensures { reply_of t.new result ≡ grant_rule t.old a }
 {
-    let sound = is_sound(t);
-    grant_rule(t, sound, a)
+    let mut one = agent_at(t, a).ok_or(Code::NoAgent)?;
+    let Phase::Asking(target) = one.phase else {
+        return Err(Code::OutOfTurn);
+    };
+    if t.lock != Lock::Unheld {
+        return Err(Code::LockHeld);
+    }
+    one.phase = Phase::Granted(target);
+    set_at(&mut t.agent, a.0, one);
+    t.lock = Lock::ForMove(a);
+    Ok(Taken::Done(0))
 }
 
-// A granted agent goes to its target.
-pub fn leap(t: State, a: AgentNo) -> Reply
-    ensures { result ≡ step_of t (Step.Leap a) }
+// A granted agent goes to its target; the server learns of it at book.
+#[tactic(auto, unfolding(rules::specs::Steps::leap_rule))]
+pub fn leap_rule(t: &mut State, a: AgentNo) -> Result<Taken, Code>
+    ensures { reply_of t.new result ≡ leap_rule t.old a }
 {
-    let sound = is_sound(t);
-    leap_rule(t, sound, a)
+    let mut one = agent_at(t, a).ok_or(Code::NoAgent)?;
+    let Phase::Granted(target) = one.phase else {
+        return Err(Code::OutOfTurn);
+    };
+    one.site = target;
+    one.phase = Phase::Landed;
+    set_at(&mut t.agent, a.0, one);
+    Ok(Taken::Done(0))
 }
 
-// The server learns where a landed agent is, and frees the lock.
-pub fn book(t: State, a: AgentNo) -> Reply
-    ensures { result ≡ step_of t (Step.Book a) }
+// The server learns where a landed agent is. With the map right again the lock is free.
+#[tactic(auto, unfolding(rules::specs::Steps::book_rule))]
+pub fn book_rule(t: &mut State, a: AgentNo) -> Result<Taken, Code>
+    ensures { reply_of t.new result ≡ book_rule t.old a }
 {
-    let sound = is_sound(t);
-    book_rule(t, sound, a)
-}
-
-// The map entry stays: the agent is still where it was.
-fn grant_rule(mut t: State, sound: bool, a: AgentNo) -> Reply
-    ensures { result ≡ unless sound BadState t (grant_rule t a) }
-{
-    if !sound {
-        return refused(t, Code::BadState);
+    let mut one = agent_at(t, a).ok_or(Code::NoAgent)?;
+    if one.phase != Phase::Landed {
+        return Err(Code::OutOfTurn);
     }
-    let agents = t.agents;
-    if agents <= a.0 {
-        return refused(t, Code::NoAgent);
-    }
-    let agent = t.agent;
-    let one = agent_in(agent, a);
-    let phase = one.phase;
-    if phase_kind(phase) != ASKING {
-        return refused(t, Code::OutOfTurn);
-    }
-    let held = t.held;
-    let lock = held.lock;
-    if !is_unheld(lock) {
-        return refused(t, Code::LockHeld);
-    }
-    let target = target_of(phase);
-    let granted = with_phase(one, Phase::Granted(target));
-    let changed = agent_put(agent, a, granted);
-    let taken = holding(Lock::ForMove(a));
-    t.held = taken;
-    t.agent = changed;
-    done(t, 0)
-}
-
-// The agent leaves its site; the server learns of it at book.
-fn leap_rule(mut t: State, sound: bool, a: AgentNo) -> Reply
-    ensures { result ≡ unless sound BadState t (leap_rule t a) }
-{
-    if !sound {
-        return refused(t, Code::BadState);
-    }
-    let agents = t.agents;
-    if agents <= a.0 {
-        return refused(t, Code::NoAgent);
-    }
-    let agent = t.agent;
-    let one = agent_in(agent, a);
-    let phase = one.phase;
-    if phase_kind(phase) != GRANTED {
-        return refused(t, Code::OutOfTurn);
-    }
-    let target = target_of(phase);
-    let landed = with_phase(one, Phase::Landed);
-    let there = moved_to(landed, target);
-    let changed = agent_put(agent, a, there);
-    t.agent = changed;
-    done(t, 0)
-}
-
-// With the map right again the lock is free.
-fn book_rule(mut t: State, sound: bool, a: AgentNo) -> Reply
-    ensures { result ≡ unless sound BadState t (book_rule t a) }
-{
-    if !sound {
-        return refused(t, Code::BadState);
-    }
-    let agents = t.agents;
-    if agents <= a.0 {
-        return refused(t, Code::NoAgent);
-    }
-    let agent = t.agent;
-    let one = agent_in(agent, a);
-    let phase = one.phase;
-    if phase_kind(phase) != LANDED {
-        return refused(t, Code::OutOfTurn);
-    }
-    let booked = with_phase(one, Phase::Booked);
-    let known = mapped_here(booked);
-    let changed = agent_put(agent, a, known);
-    let free = holding(Lock::Unheld);
-    t.held = free;
-    t.agent = changed;
-    done(t, 0)
+    one.phase = Phase::Booked;
+    one.map = Some(one.site);
+    set_at(&mut t.agent, a.0, one);
+    t.lock = Lock::Unheld;
+    Ok(Taken::Done(0))
 }

@@ -1,17 +1,10 @@
 -- After any sequence of steps, from any sound table: what became of every message taken, and how far the map is right.
-use Prim.Native.Nat.{ℕ}
-use mathlib.Core.Path.{◌≡◌, refl, ap, sym, ◌∙◌, subst}
-use mathlib.Core.Logic.{◌⊎◌, inl, inr}
-use mathlib.Core.Bool.{Bool, true, false, cond}
-use mathlib.Core.List.{List}
-use native.Mathlib.Omega.{arith}
-use borrow.Author.Tests.{eq-eqb, ne_eqb}
+use Rattle.std.proofs.Common.{Some, ℕ, ◌≡◌, refl, ap, sym, ◌∙◌, subst, ◌⊎◌, inl, inr, Bool, true, false, cond, List, arith, eq-eqb, ne_eqb}
 use Rattle.records.specs.declared.AgentNo.{AgentNo}
 use Rattle.records.specs.declared.MailNo.{MailNo}
 use Rattle.records.specs.declared.Item.{Item}
 use Rattle.records.specs.declared.Phase.{Phase}
 use Rattle.records.specs.declared.Phase.TheVariants.{Free, Spawning, Born, Enrolled, Asking, Granted, Landed, Booked}
-use Rattle.records.specs.declared.Mapped.TheVariants.{At}
 use Rattle.records.specs.declared.Status.{Status}
 use Rattle.records.specs.declared.Status.TheVariants.{Queued, Out, Handed, Closed, Lost}
 use Rattle.records.specs.declared.Lock.TheVariants.{ForMove}
@@ -22,7 +15,6 @@ use Rattle.rules.specs.declared.Step.{Step}
 use Rattle.rules.specs.Holding.{Shaped, IsAgent, IsMessage, site_of, phase_of, map_of, message_at, status_of, lock_of, log_of, inbox_of}
 use Rattle.rules.specs.Soundness.{Sound, Delivered, times_logged}
 use Rattle.rules.specs.Steps.{addressee_of}
-use Rattle.preservation.proofs.Locking.{never}
 use Rattle.preservation.proofs.OneAgent.{Good}
 use Rattle.records.proofs.ReaderLaws.{delivered-is}
 use Rattle.preservation.proofs.Hand.{not-logged}
@@ -48,8 +40,8 @@ module _ (t : State) (g : Good t) where
   waits : (m : MailNo) → IsMessage t m → (x : Status) → status_of t m ≡ x → is_delivered x ≡ false → Waiting t m
   waits m h Queued e d = inl e
   waits m h (Out s) e d = inr (s, e)
-  waits m h Handed e d = absurd (never (cc))
-  waits m h Closed e d = absurd (never (cc))
+  waits m h Handed e d = cc
+  waits m h Closed e d = cc
   waits m h Lost e d = absurd (g.1.lost m h e)
 
   not_yet : (m : MailNo) → IsMessage t m → is_delivered (status_of t m) ≡ false → NotYet t m
@@ -93,14 +85,14 @@ module _ (t : State) (g : Good t) where
       (found.0, logged-there t g.1 found.0 found.1, found.2, found.3)
 
   landed-or-not : (p : Phase) → (p ≡ Landed) ⊎ (p ≡ Landed → ⊥)
-  landed-or-not Free = inr (λ e. never (cc))
-  landed-or-not (Spawning c) = inr (λ e. never (cc))
-  landed-or-not (Born q) = inr (λ e. never (cc))
-  landed-or-not (Enrolled q) = inr (λ e. never (cc))
-  landed-or-not (Asking u) = inr (λ e. never (cc))
-  landed-or-not (Granted u) = inr (λ e. never (cc))
+  landed-or-not Free = inr (λ e. cc)
+  landed-or-not (Spawning c) = inr (λ e. cc)
+  landed-or-not (Born q) = inr (λ e. cc)
+  landed-or-not (Enrolled q) = inr (λ e. cc)
+  landed-or-not (Asking u) = inr (λ e. cc)
+  landed-or-not (Granted u) = inr (λ e. cc)
   landed-or-not Landed = inl refl
-  landed-or-not Booked = inr (λ e. never (cc))
+  landed-or-not Booked = inr (λ e. cc)
 
   map-right : MapSettled t
   map-right =
@@ -117,7 +109,7 @@ module _ (t : State) (g : Good t) where
           → IsAgent t a
           → ((p : AgentNo) → phase_of t a ≡ Born p → ⊥)
           → (phase_of t a ≡ Landed) ⊎ (phase_of t a ≡ Landed → ⊥)
-          → (map_of t a ≡ At (site_of t a)) ⊎ (phase_of t a ≡ Landed)
+          → (map_of t a ≡ Some (site_of t a)) ⊎ (phase_of t a ≡ Landed)
       told a h n (inl e) = inr e
       told a h n (inr d) = inl (g.1.map a h n d)
 

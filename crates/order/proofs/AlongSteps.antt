@@ -1,10 +1,5 @@
 -- Along any sequence of steps, from any sound table: the order is built on the way.
-use Prim.Native.Nat.{ℕ, ◌+◌}
-use mathlib.Core.Path.{◌≡◌, refl, ap, sym, subst}
-use mathlib.Core.Logic.{inl, inr}
-use mathlib.Core.Bool.{Bool, true, cond}
-use mathlib.Core.List.{List, [], ◌∷◌, ◌++◌, append_assoc, append-nil}
-use lib.Dec.{eqb}
+use Rattle.std.proofs.Common.{ℕ, ◌+◌, ◌≡◌, refl, ap, sym, subst, inl, inr, Bool, true, cond, List, [], ◌∷◌, ◌++◌, append_assoc, append-nil, eqb}
 use Rattle.records.specs.declared.AgentNo.{AgentNo}
 use Rattle.records.specs.declared.SiteNo.{SiteNo}
 use Rattle.records.specs.declared.MailNo.{MailNo}
@@ -18,7 +13,6 @@ use Rattle.rules.specs.declared.Reply.{Reply}
 use Rattle.rules.specs.declared.Step.{Step}
 use Rattle.rules.specs.Holding.{IsMessage, phase_of, message_at}
 use Rattle.rules.specs.Steps.{addressee_of, step_of}
-use Rattle.preservation.proofs.Locking.{never}
 use Rattle.preservation.proofs.OneAgent.{Good}
 use Rattle.preservation.proofs.Outcomes.{Went, spawned, asked, sent, enrolled, greeted, granted, leapt, booked, settled, forwarded, handed, lost, closed, Outcome, stayed, went, step-outcome}
 use Rattle.order.specs.Marks.{Mark, nothing, asks, leaves, takes, hands, mark_done, mark_of, marks_of, table_after, in_move, asks_in, moves_begun}
@@ -84,8 +78,8 @@ module _ (t : State) (g : Good t) where
   link a =
       record {
         pending = λ u h. (0, one a (moving u h), inl (refl, h), λ w k. same u w h k);
-        unleft = λ u h i e. absurd (never (cc));
-        unsettled = λ h i e. absurd (never (cc));
+        unleft = λ u h i e. cc;
+        unsettled = λ h i e. cc;
       }
     where
       moving : (u : SiteNo) → PendingTo (phase_of t a) u → in_move (phase_of t a) ≡ true
@@ -100,30 +94,30 @@ module _ (t : State) (g : Good t) where
 
       same : (u w : SiteNo) → PendingTo (phase_of t a) u → Targets t [] a 0 w → w ≡ u
       same u w h (inl k) = aim u w h k.1
-      same u w h (inr k) = let e : nothing ≡ asks a w = k.1.0 in absurd (never (cc))
+      same u w h (inr k) = let e : nothing ≡ asks a w = k.1.0 in cc
 
   known : (m : MailNo) (b : AgentNo) (x : Item) → Taken t [] m b x → IsMessage t m × (addressee_of t m ≡ b) × (item_of (message_at t m) ≡ x)
   known m b x (inl h) = h
-  known m b x (inr h) = let e : nothing ≡ takes m b x = h.1 in absurd (never (cc))
+  known m b x (inr h) = let e : nothing ≡ takes m b x = h.1 in cc
 
   none : (x : Operation) (i : ℕ) → EffectAt t [] x i → ⊥
-  none (creation p c) i h = never (cc)
-  none (move a k u) i h = let e : nothing ≡ leaves a = h.1 in never (cc)
-  none (message b x) i h = let e : nothing ≡ hands h.0 = h.2 in never (cc)
+  none (creation p c) i h = cc
+  none (move a k u) i h = let e : nothing ≡ leaves a = h.1 in cc
+  none (message b x) i h = let e : nothing ≡ hands h.0 = h.2 in cc
 
   begin : Inv t [] t []
   unfolding put_all
   begin =
       record {
         good = g;
-        creations = record { created = λ i p c e. absurd (never (cc)); greeted = λ i c e. absurd (never (cc)) };
+        creations = record { created = λ i p c e. cc; greeted = λ i c e. cc };
         moves = link;
         mail =
             record {
               taken = λ m h. inl (h, refl, refl);
               known = known;
-              handed = λ i m e. absurd (never (cc));
-              closed = λ i m e. absurd (never (cc));
+              handed = λ i m e. cc;
+              closed = λ i m e. cc;
             };
         ordered =
             record {

@@ -1,13 +1,5 @@
 -- The two steps of a creation that are marked: spawn, which has its effect at once, and greet, which has none.
-use Prim.Native.Nat.{ℕ, suc, ◌<◌}
-use mathlib.Core.Path.{◌≡◌, refl, ap, sym, ◌∙◌, subst}
-use mathlib.Core.Logic.{◌⊎◌, inl, inr}
-use mathlib.Core.Bool.{Bool, true, false, cond}
-use mathlib.Core.List.{List, [], ◌∷◌, ◌++◌}
-use lib.ListN.{length}
-use lib.Dec.{lit≤, eqb}
-use native.Mathlib.Omega.{arith}
-use borrow.Author.Tests.{eq-eqb, ne_eqb}
+use Rattle.std.proofs.Common.{ℕ, suc, ◌<◌, ◌≡◌, refl, ap, sym, ◌∙◌, subst, ◌⊎◌, inl, inr, Bool, true, false, cond, List, [], ◌∷◌, ◌++◌, length, lit≤, eqb, arith, eq-eqb, ne_eqb}
 use Rattle.records.specs.declared.AgentNo.{AgentNo}
 use Rattle.records.specs.declared.Agent.{Agent}
 use Rattle.records.specs.declared.Phase.TheVariants.{Free, Spawning, Born, Enrolled}
@@ -18,7 +10,6 @@ use Rattle.records.specs.Limits.{most_agents}
 use Rattle.rules.specs.Holding.{IsAgent, site_of, phase_of, next_agent, with_new_agent}
 use Rattle.rules.specs.Steps.{to_phase}
 use Rattle.preservation.proofs.AfterChange.{first, second, neither}
-use Rattle.preservation.proofs.Locking.{never}
 use Rattle.preservation.proofs.Greet
 use Rattle.preservation.proofs.Greet.{greet-good}
 use Rattle.preservation.proofs.Spawn
@@ -57,10 +48,10 @@ module _ (start : State) (ms : List Mark) (t : State) (order : List Operation) (
       after
       v.creations
       (omega arith)
-      (λ p c q. absurd (never (cc)))
+      (λ p c q. cc)
       (λ c q. subst (IsAgent t) (cc) there))
       moves
-      (mail-same start ms (greets b) t t.agents after.agent t.held v.mail (λ e. omega arith) (λ e. omega arith) (λ e. omega arith))
+      (mail-same start ms (greets b) t t.agents after.agent t.lock v.mail (λ e. omega arith) (λ e. omega arith) (λ e. omega arith))
       (board-same t after refl (Greet.site-kept t v.good b p there e) refl (λ m h. (refl, refl)))
     where
       after : State
@@ -72,7 +63,7 @@ module _ (start : State) (ms : List Mark) (t : State) (order : List Operation) (
           told : Greet.Now t v.good b p there e c → MoveLink start (more ms (greets b)) c (phase_of after c)
           told (Greet.freed i w r) = move-as r (move-idle start (more ms (greets b)) c Free refl)
           told (Greet.other n m r) =
-              move-as r (move_same start ms (greets b) t c v.moves refl (λ q. never (cc)) (λ q. never (cc)))
+              move-as r (move_same start ms (greets b) t c v.moves refl (λ q. cc) (λ q. cc))
 
 module _
     (start : State)
@@ -103,7 +94,7 @@ module _
         told : Spawn.Now t v.good a there e some c → MoveLink start (more ms mark) c (phase_of after c)
         told (first q r) = move-as r (move-idle start (more ms mark) c (Spawning new) refl)
         told (second q r) = move-as r (move-idle start (more ms mark) c (Born a) refl)
-        told (neither n m r) = move-as r (move_same start ms mark t c v.moves refl (λ q. never (cc)) (λ q. never (cc)))
+        told (neither n m r) = move-as r (move_same start ms mark t c v.moves refl (λ q. cc) (λ q. cc))
 
     -- the new agent at its parent's site, and any other where it was
     sites : (c : AgentNo) → site_of after c ≡ cond (eqb t.agents c.0) (site_of t a) (site_of t c)
@@ -130,15 +121,15 @@ module _
         let was = (v.ordered.exactly (creation p c)).0 h in
         let q : c ≡ new = cc in
         omega (arith, v.creations.created was.0 p c was.1, ap (λ (z : AgentNo). z.0) q)
-    fresh (move b k u) h n = never (cc)
-    fresh (message b y) h n = never (cc)
+    fresh (move b k u) h n = cc
+    fresh (message b y) h n = cc
 
     unfinished : (i : ℕ) → OverAt start (more ms mark) (creation a new) i → ⊥
-    unfinished i h = told (at_snoc ms mark i (greets new) (λ q. never (cc)) h)
+    unfinished i h = told (at_snoc ms mark i (greets new) (λ q. cc) h)
       where
         told : ((i < length ms) × At ms i (greets new)) ⊎ ((i ≡ length ms) × (mark ≡ greets new)) → ⊥
         told (inl w) = omega (arith, v.creations.greeted i new w.1)
-        told (inr w) = let q : mark ≡ greets new = w.1 in never (cc)
+        told (inr w) = let q : mark ≡ greets new = w.1 in cc
 
     pub spawn-on : Inv start (more ms mark) after (order ++ (creation a new ∷ []))
     spawn-on =
@@ -153,7 +144,7 @@ module _
         v
         (record {
           create = λ p c q. let same : c ≡ new = cc in ap (λ (z : AgentNo). z.0) same;
-          take = λ m b y q. absurd (never (cc));
+          take = λ m b y q. cc;
         })
         (spawn-good t v.good a there e some)
         (creations-on
@@ -164,9 +155,9 @@ module _
         v.creations
         (omega arith)
         (λ p c q. let same : c ≡ new = cc in omega (arith, ap (λ (z : AgentNo). z.0) same))
-        (λ c q. absurd (never (cc))))
+        (λ c q. cc))
         moves
-        (mail-same start ms mark t (suc t.agents) after.agent t.held v.mail (λ e. omega arith) (λ e. omega arith) (λ e. omega arith))
+        (mail-same start ms mark t (suc t.agents) after.agent t.lock v.mail (λ e. omega arith) (λ e. omega arith) (λ e. omega arith))
         (there, refl)
         (board-created t after a new refl sites (inboxes-same t after refl (λ m h. (refl, refl))))
         (at_last ms mark)

@@ -1,17 +1,11 @@
 -- One more mark at the end: beginnings, effects and ends at the places before it are what they were.
-use Prim.Native.Nat.{ℕ, suc, ◌<◌, ◌≤◌}
-use mathlib.Core.Path.{◌≡◌, refl, ap, sym, ◌∙◌}
-use mathlib.Core.Logic.{◌⊎◌, inl, inr}
-use mathlib.Core.List.{List}
-use lib.ListN.{length, take}
-use native.Mathlib.Omega.{arith}
+use Rattle.std.proofs.Common.{ℕ, suc, ◌<◌, ◌≤◌, ◌≡◌, refl, ap, sym, ◌∙◌, ◌⊎◌, inl, inr, List, length, take, arith}
 use Rattle.records.specs.declared.AgentNo.{AgentNo}
 use Rattle.records.specs.declared.SiteNo.{SiteNo}
 use Rattle.records.specs.declared.MailNo.{MailNo}
 use Rattle.records.specs.declared.Item.{Item}
 use Rattle.rules.specs.declared.State.{State}
 use Rattle.rules.specs.Holding.{IsMessage}
-use Rattle.preservation.proofs.Locking.{never}
 use Rattle.order.specs.Marks.{Mark, nothing, creates, asks, leaves, settles, takes, hands, closes, At, moves_begun}
 use Rattle.order.specs.Operations.{Operation, creation, move, message, Targets, Taken, BeginsAt, EffectAt, OverAt}
 use Rattle.order.proofs.MarkLaws.{at-below, more, at-keeps, at_old, at_snoc, take-old, take_last, begun-most}
@@ -19,14 +13,14 @@ use Rattle.order.proofs.Links.{MailLinks, New}
 
 -- where an operation begins or has its effect is a place of the sequence
 pub begins-below : (first : State) (ms : List Mark) (y : Operation) (i : ℕ) → BeginsAt first ms y i → i < length ms
-begins-below first ms (creation p c) i h = at-below ms i (creates p c) (λ e. never (cc)) h
-begins-below first ms (move a k u) i h = at-below ms i (asks a u) (λ e. never (cc)) h.0
-begins-below first ms (message b y) i h = at-below ms i (takes h.0 b y) (λ e. never (cc)) h.1
+begins-below first ms (creation p c) i h = at-below ms i (creates p c) (λ e. cc) h
+begins-below first ms (move a k u) i h = at-below ms i (asks a u) (λ e. cc) h.0
+begins-below first ms (message b y) i h = at-below ms i (takes h.0 b y) (λ e. cc) h.1
 
 pub effect-below : (first : State) (ms : List Mark) (y : Operation) (i : ℕ) → EffectAt first ms y i → i < length ms
-effect-below first ms (creation p c) i h = at-below ms i (creates p c) (λ e. never (cc)) h
-effect-below first ms (move a k u) i h = at-below ms i (leaves a) (λ e. never (cc)) h.1
-effect-below first ms (message b y) i h = at-below ms i (hands h.0) (λ e. never (cc)) h.2
+effect-below first ms (creation p c) i h = at-below ms i (creates p c) (λ e. cc) h
+effect-below first ms (move a k u) i h = at-below ms i (leaves a) (λ e. cc) h.1
+effect-below first ms (message b y) i h = at-below ms i (hands h.0) (λ e. cc) h.2
 
 module _ (first : State) (ms : List Mark) (x : Mark) where
   pub begun-old : (i : ℕ) (a : AgentNo) → i ≤ length ms → moves_begun first (take i (more ms x)) a ≡ moves_begun first (take i ms) a
@@ -54,7 +48,7 @@ module _ (first : State) (ms : List Mark) (x : Mark) where
 
   pub targets-old : (a : AgentNo) (k : ℕ) (u : SiteNo) → Targets first ms a k u → Targets first (more ms x) a k u
   targets-old a k u (inl h) = inl h
-  targets-old a k u (inr h) = inr (h.0, counted-old h.0 a (asks a u) k (λ e. never (cc)) h.1)
+  targets-old a k u (inr h) = inr (h.0, counted-old h.0 a (asks a u) k (λ e. cc) h.1)
 
   -- a move for which more have begun at some place did not begin at the new one
   pub targets-back :
@@ -63,7 +57,7 @@ module _ (first : State) (ms : List Mark) (x : Mark) where
       → Targets first (more ms x) a k u
       → Targets first ms a k u
   targets-back a k u i e (inl h) = inl h
-  targets-back a k u i e (inr h) = told (at_snoc ms x h.0 (asks a u) (λ e. never (cc)) h.1.0)
+  targets-back a k u i e (inr h) = told (at_snoc ms x h.0 (asks a u) (λ e. cc) h.1.0)
     where
       told :
           ((h.0 < length ms) × At ms h.0 (asks a u)) ⊎ ((h.0 ≡ length ms) × (x ≡ asks a u))
@@ -76,12 +70,12 @@ module _ (first : State) (ms : List Mark) (x : Mark) where
 
   pub taken-old : (m : MailNo) (b : AgentNo) (y : Item) → Taken first ms m b y → Taken first (more ms x) m b y
   taken-old m b y (inl h) = inl h
-  taken-old m b y (inr h) = inr (h.0, at_old ms x h.0 (takes m b y) (λ e. never (cc)) h.1)
+  taken-old m b y (inr h) = inr (h.0, at_old ms x h.0 (takes m b y) (λ e. cc) h.1)
 
   -- a message that the new mark does not take was taken before it
   pub taken_back : (m : MailNo) (b : AgentNo) (y : Item) → (x ≡ takes m b y → ⊥) → Taken first (more ms x) m b y → Taken first ms m b y
   taken_back m b y other (inl h) = inl h
-  taken_back m b y other (inr h) = told (at_snoc ms x h.0 (takes m b y) (λ e. never (cc)) h.1)
+  taken_back m b y other (inr h) = told (at_snoc ms x h.0 (takes m b y) (λ e. cc) h.1)
     where
       told : ((h.0 < length ms) × At ms h.0 (takes m b y)) ⊎ ((h.0 ≡ length ms) × (x ≡ takes m b y)) → Taken first ms m b y
       told (inl w) = inr (h.0, w.1)
@@ -93,11 +87,11 @@ module _ (first : State) (ms : List Mark) (x : Mark) where
 
   -- what had its effect has had it
   pub effect-old : (y : Operation) (i : ℕ) → EffectAt first ms y i → EffectAt first (more ms x) y i
-  effect-old (creation p c) i h = at_old ms x i (creates p c) (λ e. never (cc)) h
+  effect-old (creation p c) i h = at_old ms x i (creates p c) (λ e. cc) h
   effect-old (move a k u) i h =
-      let then = counted-old i a (leaves a) (suc k) (λ e. never (cc)) (h.1, h.2) in
+      let then = counted-old i a (leaves a) (suc k) (λ e. cc) (h.1, h.2) in
       (targets-old a k u h.0, then.0, then.1)
-  effect-old (message b y) i h = (h.0, taken-old h.0 b y h.1, at_old ms x i (hands h.0) (λ e. never (cc)) h.2)
+  effect-old (message b y) i h = (h.0, taken-old h.0 b y h.1, at_old ms x i (hands h.0) (λ e. cc) h.2)
 
   pub begins-back : (y : Operation) (i : ℕ) → i < length ms → BeginsAt first (more ms x) y i → BeginsAt first ms y i
   begins-back (creation p c) i low h = sym (at-keeps ms x i low) ∙ h

@@ -1,7 +1,6 @@
 -- The words of the statement at work, on one sequence from a fresh table of three sites: agent 0 creates agent 1, writes to it twice
 -- under one number, and agent 1 moves meanwhile. So none of these words is empty, and the order is what one expects.
-use mathlib.Core.Path.{◌≡◌, refl}
-use mathlib.Core.List.{List, [], ◌∷◌}
+use Rattle.std.proofs.Common.{◌≡◌, refl, List, [], ◌∷◌}
 use Rattle.records.specs.Numbers.{agent_no, site_no, mail_no}
 use Rattle.records.specs.declared.Item.{Item}
 use Rattle.rules.specs.declared.Step.{Step}

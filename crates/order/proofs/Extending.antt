@@ -1,12 +1,6 @@
 -- The order, one mark further: as it was where the mark is no effect, and with one operation more at its end where it is.
-use Prim.Native.Nat.{ℕ, suc, ◌<◌}
-use mathlib.Core.Path.{◌≡◌, sym, ◌∙◌, subst}
-use mathlib.Core.Logic.{◌⊎◌, inl, inr, ◌↔◌}
-use mathlib.Core.List.{List, [], ◌∷◌, ◌++◌, map}
-use lib.ListN.{length, take, length-append}
-use native.Mathlib.Numerals.{add-one}
-use native.Mathlib.Decide.{dec_lt}
-use native.Mathlib.Omega.{arith}
+use Rattle.std.proofs.Common.{ℕ, suc, ◌<◌, ◌≡◌, sym, ◌∙◌, subst, ◌⊎◌, inl, inr, ◌↔◌, List, [], ◌∷◌, ◌++◌, map, length, take, length-append, add-one, arith}
+use Rattle.std.proofs.Math.Decide.{dec_lt}
 use Rattle.rules.specs.declared.State.{State}
 use Rattle.order.specs.Lists.{In, Distinct, StandsBefore}
 use Rattle.order.specs.Marks.{Mark, creates, takes, moves_begun}

@@ -1,12 +1,6 @@
 -- hand: a message has its effect.
-use Prim.Native.Nat.{ℕ, ◌<◌}
-use mathlib.Core.Path.{◌≡◌, refl, ap, sym, ◌∙◌, subst}
-use mathlib.Core.Logic.{◌⊎◌, inl, inr}
-use mathlib.Core.Bool.{true, false≢true}
-use mathlib.Core.List.{List, [], ◌∷◌, ◌++◌}
-use lib.ListN.{length}
-use lib.Seq.{take-suc-set}
-use native.Mathlib.Omega.{arith}
+use Rattle.std.proofs.Common.{ℕ, ◌<◌, ◌≡◌, refl, ap, sym, ◌∙◌, subst, ◌⊎◌, inl, inr, true, List, [], ◌∷◌, ◌++◌, length, take-suc-set, arith}
+use Rattle.std.proofs.lemmas.Bool.{false≢true}
 use Rattle.records.specs.declared.AgentNo.{AgentNo}
 use Rattle.records.specs.declared.SiteNo.{SiteNo}
 use Rattle.records.specs.declared.MailNo.{MailNo}
@@ -17,7 +11,6 @@ use Rattle.rules.specs.declared.State.{State}
 use Rattle.rules.specs.Holding.{IsMessage, message_at, status_of, log_of, with_status, with_logged}
 use Rattle.rules.specs.Steps.{addressee_of}
 use Rattle.preservation.proofs.AfterChange.{Seen, changed, kept}
-use Rattle.preservation.proofs.Locking.{never}
 use Rattle.preservation.proofs.OneMessage.{status-now}
 use Rattle.preservation.proofs.Hand.{log-shorter, hand-good}
 use Rattle.preservation.proofs.Letters.{one-letter}
@@ -107,15 +100,15 @@ module _
         λ i. message (sym known.1 i) (sym known.2 i)
 
     fresh : (y : Operation) → In y order → name_of y ≡ name_of it → ⊥
-    fresh (creation p c) h n = never (cc)
-    fresh (move b j w) h n = never (cc)
+    fresh (creation p c) h n = cc
+    fresh (move b j w) h n = cc
     fresh (message b y) h n =
         let was = (v.ordered.exactly (message b y)).0 h in
         let same : was.1.0 ≡ m = same-letter was.1.0 b y was.1.1 (cc) (cc) in
         not-delivered was.1.0 same (v.mail.handed was.0 was.1.0 was.1.2).1
 
     unfinished : (i : ℕ) → OverAt start (more ms mark) it i → ⊥
-    unfinished i h = told (at_snoc ms mark i (closes h.0) (λ q. never (cc)) h.2)
+    unfinished i h = told (at_snoc ms mark i (closes h.0) (λ q. cc) h.2)
       where
         told : ((i < length ms) × At ms i (closes h.0)) ⊎ ((i ≡ length ms) × (mark ≡ closes h.0)) → ⊥
         told (inl w) =
@@ -129,7 +122,7 @@ module _
             refl
             refl in
             not-delivered h.0 same (ap is_delivered closed.1)
-        told (inr w) = let q : mark ≡ closes h.0 = w.1 in never (cc)
+        told (inr w) = let q : mark ≡ closes h.0 = w.1 in cc
 
     pub hand_on : Inv start (more ms mark) after (order ++ (it ∷ []))
     hand_on =
@@ -145,7 +138,7 @@ module _
         new
         (hand-good t v.good m there s e)
         (creations-same start ms mark t after v.creations (omega arith) (λ q. omega arith) (λ q. omega arith))
-        (λ c. move_same start ms mark t c v.moves refl (λ q. never (cc)) (λ q. never (cc)))
+        (λ c. move_same start ms mark t c v.moves refl (λ q. cc) (λ q. cc))
         (mail-on
         start
         ms
@@ -156,14 +149,14 @@ module _
         refl
         (λ k. (refl, refl))
         still-delivered
-        (still-closed start ms t order v m there Handed (λ q. never (cc)))
-        (λ k b y q. never (cc))
+        (still-closed start ms t order v m there Handed (λ q. cc))
+        (λ k b y q. cc)
         (λ k q.
         let same : m ≡ k = cc in (
           subst (IsMessage t) same there,
           ap (λ (j : MailNo). is_delivered (status_of after j)) (sym same) ∙ ap is_delivered (status-is start ms t order v m there Handed),
         ))
-        (λ k q. absurd (never (cc))))
+        (λ k q. cc))
         (v.good.1.parties.addressee m there, v.good.1.parties.sender m there)
         (board-handed t after m refl (λ c. refl) log-more (λ k. (refl, refl)))
         (m, taken-old start ms mark m (addressee_of t m) (item_of (message_at t m)) (v.mail.taken m there), at_last ms mark)

@@ -1,7 +1,5 @@
 -- Demand 3: from any sound table, and so from a freshly opened one, whatever the sequence of steps.
-use Prim.Native.Nat.{ℕ}
-use mathlib.Core.Path.{◌≡◌, refl, ap}
-use mathlib.Core.List.{List, [], ◌∷◌}
+use Rattle.std.proofs.Common.{ℕ, ◌≡◌, refl, ap, List, [], ◌∷◌}
 use Rattle.records.specs.declared.Code.TheVariants.{Done}
 use Rattle.rules.specs.declared.State.{State}
 use Rattle.rules.specs.declared.Reply.{Reply}

@@ -1,15 +1,7 @@
 -- What stands in the inboxes of a sound table: each delivered message once, at its addressee's, and nothing else.
-use Prim.Native.Nat.{ℕ, zero, suc, ◌≤◌, ◌+◌}
-use mathlib.Core.Path.{◌≡◌, refl, ap, ap₂, sym, ◌∙◌}
-use mathlib.Core.Logic.{inl, inr}
-use mathlib.Core.Bool.{Bool, true, false, cond, ◌&&◌, true≢false, false≢true}
-use mathlib.Core.List.{List, [], ◌∷◌, ◌++◌}
-use lib.ListN.{length, get_or, take}
-use lib.Seq.{take-suc}
-use lib.Dec.{eqb}
-use native.Mathlib.Decide.{ℕ_discrete}
-use native.Mathlib.Omega.{arith}
-use borrow.Author.Tests.{eq-eqb, ne_eqb, eqb-true}
+use Rattle.std.proofs.Common.{ℕ, zero, suc, ◌≤◌, ◌+◌, ◌≡◌, refl, ap, ap₂, sym, ◌∙◌, inl, inr, Bool, true, false, cond, ◌&&◌, true≢false, List, [], ◌∷◌, ◌++◌, length, get_or, take, take-suc, eqb, arith, eq-eqb, ne_eqb, eqb-true}
+use Rattle.std.proofs.Math.Decide.{ℕ_discrete}
+use Rattle.std.proofs.lemmas.Bool.{cond_both, false≢true, and_parts}
 use Rattle.records.specs.declared.AgentNo.{AgentNo}
 use Rattle.records.specs.declared.MailNo.{MailNo}
 use Rattle.records.specs.declared.Item.{Item}
@@ -20,7 +12,6 @@ use Rattle.rules.specs.declared.State.{State}
 use Rattle.rules.specs.Holding.{IsMessage, message_at, inbox_from}
 use Rattle.rules.specs.Soundness.{Sound}
 use Rattle.rules.specs.Steps.{addressee_of}
-use Rattle.records.proofs.FlagLaws.{and_left, and_right}
 use Rattle.records.proofs.PlaceLaws.{count-hit, count-miss}
 use Rattle.preservation.proofs.Letters.{one-letter}
 use Rattle.order.specs.Lists.{In}
@@ -123,10 +114,6 @@ tally x y r n false true false e f h = omega arith
 tally x y r n false false true e f h = h
 tally x y r n false false false e f h = h
 
-cond-zero : (c : Bool) → ◌≡◌ {A = ℕ} 0 (cond c 0 0)
-cond-zero true = refl
-cond-zero false = refl
-
 module _ (t : State) (s : Sound t) (m : MailNo) (here : IsMessage t m) (a : AgentNo) where
   -- among messages, the same sender and number are those of m alone
   alike_is : (k : MailNo) → IsMessage t k → alike (item_of (message_at t k)) (item_of (message_at t m)) ≡ same_mail k m
@@ -134,8 +121,8 @@ module _ (t : State) (s : Sound t) (m : MailNo) (here : IsMessage t m) (a : Agen
     where
       other : (b : Bool) → (k.0 ≡ m.0 → ⊥) → alike (item_of (message_at t k)) (item_of (message_at t m)) ≡ b → b ≡ false
       other true n e =
-          let from = eqb-true _ _ (and_left (same_agent (message_at t k).sender (message_at t m).sender) _ e) in
-          let number = eqb-true _ _ (and_right (same_agent (message_at t k).sender (message_at t m).sender) _ e) in
+          let from = eqb-true _ _ (and_parts _ _ e).0 in
+          let number = eqb-true _ _ (and_parts _ _ e).1 in
           let same : k ≡ m = one-letter t s k m there here (ap agent_no from) number in
           absurd (n (ap (λ (j : MailNo). j.0) same))
       other false n e = refl
@@ -154,7 +141,7 @@ module _ (t : State) (s : Sound t) (m : MailNo) (here : IsMessage t m) (a : Agen
       → ((k : MailNo) → In k l → IsMessage t k)
       → times_in (item_of (message_at t m)) (inbox_from t a l) ≡ cond (same_agent (addressee_of t m) a) (count_in m l) 0
   unfolding inbox_from times_in
-  times-in [] h = cond-zero (same_agent (addressee_of t m) a)
+  times-in [] h = cond_both (same_agent (addressee_of t m) a) 0 0 (λ x. 0 ≡ x) (λ _. refl) (λ _. refl)
   times-in (k ∷ ks) h =
       tally
       (item_of (message_at t m))

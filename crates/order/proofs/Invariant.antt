@@ -1,13 +1,8 @@
 -- What holds of the marks so far, the table they have come to, and the order built on the way.
-use Prim.Native.Nat.{ℕ, ◌≤◌}
-use mathlib.Core.Path.{◌≡◌, refl, ap, sym, ◌∙◌, subst}
-use mathlib.Core.Bool.{false}
-use mathlib.Core.List.{List, [], ◌∷◌, ◌++◌}
-use lib.ListN.{length}
-use native.Mathlib.Omega.{arith}
+use Rattle.std.proofs.Common.{ℕ, ◌≤◌, ◌≡◌, refl, ap, sym, ◌∙◌, subst, false, List, [], ◌∷◌, ◌++◌, length, arith}
+use Rattle.records.specs.declared.Lock.{Lock}
 use Rattle.records.specs.declared.AgentNo.{AgentNo}
 use Rattle.records.specs.declared.Agent.{Agent}
-use Rattle.records.specs.declared.Held.{Held}
 use Rattle.rules.specs.declared.State.{State}
 use Rattle.rules.specs.Holding.{phase_of}
 use Rattle.preservation.proofs.OneAgent.{Good}
@@ -119,7 +114,7 @@ module _ (first : State) (ms : List Mark) (x : Mark) where
 
   -- a mark of no message, where only agents and the lock change
   pub mail-same :
-      (t : State) (n : ℕ) (l : List Agent) (h : Held)
+      (t : State) (n : ℕ) (l : List Agent) (h : Lock)
       → MailLinks first ms t
       → (tag_of x ≡ 2 → ⊥)
       → (tag_of x ≡ 3 → ⊥)

@@ -1,13 +1,6 @@
 -- leap: the agent's last move has its effect.
-use Prim.Native.Nat.{ℕ, suc, ◌<◌}
-use mathlib.Core.Path.{◌≡◌, refl, ap, sym, ◌∙◌, subst}
-use mathlib.Core.Logic.{◌⊎◌, inl, inr}
-use mathlib.Core.Bool.{Bool, true, false, cond}
-use mathlib.Core.List.{List, [], ◌∷◌, ◌++◌}
-use lib.ListN.{length, take}
-use lib.Seq.{take-length}
-use native.Mathlib.Omega.{arith}
-use borrow.Author.Tests.{eq-eqb, ne_eqb}
+use Rattle.std.proofs.Common.{ℕ, suc, ◌<◌, ◌≡◌, refl, ap, sym, ◌∙◌, subst, ◌⊎◌, inl, inr, Bool, true, false, cond, List, [], ◌∷◌, ◌++◌, length, take, arith, eq-eqb, ne_eqb}
+use Rattle.std.proofs.Math.Seq.{take-length}
 use Rattle.records.specs.declared.AgentNo.{AgentNo}
 use Rattle.records.specs.declared.SiteNo.{SiteNo}
 use Rattle.records.specs.declared.Agent.{Agent}
@@ -17,7 +10,6 @@ use Rattle.records.specs.Agents.{with_phase, moved_to}
 use Rattle.rules.specs.declared.State.{State}
 use Rattle.rules.specs.Holding.{IsAgent, agent_at, site_of, phase_of, with_agent}
 use Rattle.preservation.proofs.AfterChange.{Seen, changed, kept, seen-agent}
-use Rattle.preservation.proofs.Locking.{never}
 use Rattle.preservation.proofs.OneAgent.{agent-place}
 use Rattle.preservation.proofs.Moves.{leap-good}
 use Rattle.order.specs.Lists.{In}
@@ -102,7 +94,7 @@ module _
     only (message b y) h = let q : mark ≡ hands h.0 = sym (at_last ms mark) ∙ h.2 in cc
 
     fresh : (y : Operation) → In y order → name_of y ≡ turn a k → ⊥
-    fresh (creation p c) h n = never (cc)
+    fresh (creation p c) h n = cc
     fresh (move b j w) h n =
         let was = (v.ordered.exactly (move b j w)).0 h in
         let same : b ≡ a = cc in
@@ -110,16 +102,16 @@ module _
         let left : At ms was.0 (leaves a) = subst (λ (c : AgentNo). At ms was.0 (leaves c)) same was.1.1 in
         let turns : moves_begun start (take was.0 ms) a ≡ suc j = subst (λ (c : AgentNo). moves_begun start (take was.0 ms) c ≡ suc j) same was.1.2 in
         omega (arith, (v.moves a).unleft u (inr e) was.0 left, begun)
-    fresh (message b y) h n = never (cc)
+    fresh (message b y) h n = cc
 
     unfinished : (i : ℕ) → OverAt start (more ms mark) (move a k u) i → ⊥
-    unfinished i h = told (at_snoc ms mark i (settles a) (λ q. never (cc)) h.0)
+    unfinished i h = told (at_snoc ms mark i (settles a) (λ q. cc) h.0)
       where
         told : ((i < length ms) × At ms i (settles a)) ⊎ ((i ≡ length ms) × (mark ≡ settles a)) → ⊥
         told (inl w) =
             let then = counted_back start ms mark i a (settles a) (suc k) w.0 h in
             omega (arith, (v.moves a).unsettled (ap in_move e) i w.1, then.1, begun)
-        told (inr w) = let q : mark ≡ settles a = w.1 in never (cc)
+        told (inr w) = let q : mark ≡ settles a = w.1 in cc
 
     own : MoveLink start (more ms mark) a Landed
     own =
@@ -135,11 +127,11 @@ module _
         (λ w h. absurd (not-pending w h))
         (λ h. ap in_move e)
         (λ q w h. not-pending w h)
-        (λ q. never (cc))
+        (λ q. cc)
       where
         not-pending : (w : SiteNo) → PendingTo Landed w → ⊥
-        not-pending w (inl h) = never (cc)
-        not-pending w (inr h) = never (cc)
+        not-pending w (inl h) = cc
+        not-pending w (inr h) = cc
 
     on : Inv start (more ms mark) after (order ++ (move a k u ∷ []))
     on =
@@ -155,8 +147,8 @@ module _
         (new-plain start ms mark t (λ q. omega arith) (λ q. omega arith))
         (leap-good t v.good a there u e)
         (creations-same start ms mark t after v.creations (omega arith) (λ q. omega arith) (λ q. omega arith))
-        (moves-one start ms t order v a there mark landed own (λ b n. (refl, λ q. n (cc), λ q. never (cc))))
-        (mail-same start ms mark t t.agents after.agent t.held v.mail (λ q. omega arith) (λ q. omega arith) (λ q. omega arith))
+        (moves-one start ms t order v a there mark landed own (λ b n. (refl, λ q. n (cc), λ q. cc)))
+        (mail-same start ms mark t t.agents after.agent t.lock v.mail (λ q. omega arith) (λ q. omega arith) (λ q. omega arith))
         there
         (board-moved t after a k u refl sites (inboxes-same t after refl (λ m h. (refl, refl))))
         (targets-old start ms mark a k u target, at_last ms mark, begun-then start ms mark a ∙ begun)

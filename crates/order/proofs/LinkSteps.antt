@@ -1,12 +1,6 @@
 -- What the marks say of the table, one mark further.
-use Prim.Native.Nat.{ℕ, suc, ◌<◌, ◌≤◌}
-use mathlib.Core.Path.{◌≡◌, refl, ap, sym, ◌∙◌, subst}
-use mathlib.Core.Logic.{◌⊎◌, inl, inr}
-use mathlib.Core.Bool.{Bool, true, false, cond, true≢false}
-use mathlib.Core.List.{List}
-use lib.ListN.{length, take}
-use lib.Seq.{take-length}
-use native.Mathlib.Omega.{arith}
+use Rattle.std.proofs.Common.{ℕ, suc, ◌<◌, ◌≤◌, ◌≡◌, refl, ap, sym, ◌∙◌, subst, ◌⊎◌, inl, inr, Bool, true, false, cond, true≢false, List, length, take, arith}
+use Rattle.std.proofs.Math.Seq.{take-length}
 use Rattle.records.specs.declared.AgentNo.{AgentNo}
 use Rattle.records.specs.declared.Agent.{Agent}
 use Rattle.records.specs.declared.SiteNo.{SiteNo}
@@ -20,7 +14,6 @@ use Rattle.records.specs.Messages.{item_of, is_delivered}
 use Rattle.rules.specs.declared.State.{State}
 use Rattle.rules.specs.Holding.{IsMessage, phase_of, message_at, status_of}
 use Rattle.rules.specs.Steps.{addressee_of}
-use Rattle.preservation.proofs.Locking.{never}
 use Rattle.order.specs.Marks.{Mark, nothing, creates, greets, asks, leaves, settles, takes, hands, closes, At, in_move, asks_of, moves_begun}
 use Rattle.order.specs.Operations.{Targets, Taken}
 use Rattle.order.proofs.MarkLaws.{more, at_last, at_snoc, begun-most, begun-other, begun-asked, begun-less}
@@ -36,8 +29,8 @@ pub creations-on :
     → CreationLinks (more ms x) t'
 creations-on ms x t t' old grows created greeted =
     record {
-      created = λ i p c h. first p c (at_snoc ms x i (creates p c) (λ e. never (cc)) h);
-      greeted = λ i c h. second c (at_snoc ms x i (greets c) (λ e. never (cc)) h);
+      created = λ i p c h. first p c (at_snoc ms x i (creates p c) (λ e. cc) h);
+      greeted = λ i c h. second c (at_snoc ms x i (greets c) (λ e. cc) h);
     }
   where
     first : {i : ℕ} (p c : AgentNo) → ((i < length ms) × At ms i (creates p c)) ⊎ ((i ≡ length ms) × (x ≡ creates p c)) → c.0 < t'.agents
@@ -106,9 +99,9 @@ module _ (first : State) (ms : List Mark) (x : Mark) (a : AgentNo) where
               λ v w. was.3 v (targets-back first ms x a was.0 v (length ms) (whole ∙ was.1) w),
             );
         unleft = λ u h.
-            less-old (leaves a) (λ e. never (cc)) (old.unleft u (pend u h)) (omega (arith, same)) (λ e. left e u h);
+            less-old (leaves a) (λ e. cc) (old.unleft u (pend u h)) (omega (arith, same)) (λ e. left e u h);
         unsettled = λ h.
-            less-old (settles a) (λ e. never (cc)) (old.unsettled (moves h)) (omega (arith, same)) settled;
+            less-old (settles a) (λ e. cc) (old.unsettled (moves h)) (omega (arith, same)) settled;
       }
     where
       same : moves_begun first (more ms x) a ≡ moves_begun first ms a
@@ -134,7 +127,7 @@ module _ (first : State) (ms : List Mark) (a : AgentNo) (u : SiteNo) where
           omega (arith, h.0)
       begun false e (inl w) = true≢false (sym (ap in_move w) ∙ e)
       begun false e (inr w) = true≢false (sym (ap in_move w) ∙ e)
-  only-target v (inr h) = told (at_snoc ms (asks a u) h.0 (asks a v) (λ e. never (cc)) h.1.0)
+  only-target v (inr h) = told (at_snoc ms (asks a u) h.0 (asks a v) (λ e. cc) h.1.0)
     where
       told : ((h.0 < length ms) × At ms h.0 (asks a v)) ⊎ ((h.0 ≡ length ms) × (asks a u ≡ asks a v)) → v ≡ u
       told (inl w) =
@@ -165,13 +158,13 @@ module _ (first : State) (ms : List Mark) (a : AgentNo) (u : SiteNo) where
             × ((z : SiteNo) → Targets first asked a k z → z ≡ w))
             (aimed v h)
             (moves_begun first ms a, one_more, inr (length ms, (at_last ms (asks a u), begun-then first ms (asks a u) a)), only-target);
-        unleft = λ v h. less-now (leaves a) (λ e. never (cc)) (λ e. never (cc));
-        unsettled = λ h. less-now (settles a) (λ e. never (cc)) (λ e. never (cc));
+        unleft = λ v h. less-now (leaves a) (λ e. cc) (λ e. cc);
+        unsettled = λ h. less-now (settles a) (λ e. cc) (λ e. cc);
       }
     where
       aimed : (v : SiteNo) → PendingTo (Asking u) v → u ≡ v
       aimed v (inl e) = cc
-      aimed v (inr e) = absurd (never (cc))
+      aimed v (inr e) = cc
 
 -- Messages: none is taken, and what was delivered or closed stays so.
 pub mail-on :
@@ -198,8 +191,8 @@ mail-on first ms x t t' old count same delivered closed none hand close =
       known = λ m b y h.
           let was = old.known m b y (taken_back first ms x m b y (none m b y) h) in
           (rw count at was.0, (same m).0 ∙ was.1, (same m).1 ∙ was.2);
-      handed = λ i m h. told-hand m (at_snoc ms x i (hands m) (λ e. never (cc)) h);
-      closed = λ i m h. told-close m (at_snoc ms x i (closes m) (λ e. never (cc)) h);
+      handed = λ i m h. told-hand m (at_snoc ms x i (hands m) (λ e. cc) h);
+      closed = λ i m h. told-close m (at_snoc ms x i (closes m) (λ e. cc) h);
     }
   where
     told-hand :
@@ -230,11 +223,11 @@ mail-taken first ms x t t' new old keeps either here it =
       taken = λ m h. taken m (either m h);
       known = known;
       handed = λ i m h.
-          let was = old.handed i m (before i (hands m) (λ e. never (cc)) (λ e. never (cc)) h) in
+          let was = old.handed i m (before i (hands m) (λ e. cc) (λ e. cc) h) in
           let kept = keeps m was.0 in
           (kept.0, ap (λ (z : Message). is_delivered z.status) kept.1 ∙ was.1);
       closed = λ i m h.
-          let was = old.closed i m (before i (closes m) (λ e. never (cc)) (λ e. never (cc)) h) in
+          let was = old.closed i m (before i (closes m) (λ e. cc) (λ e. cc) h) in
           let kept = keeps m was.0 in
           (kept.0, ap (λ (z : Message). z.status) kept.1 ∙ was.1);
     }
@@ -263,7 +256,7 @@ mail-taken first ms x t t' new old keeps either here it =
 
     known : (m : MailNo) (b : AgentNo) (y : Item) → Taken first (more ms x) m b y → IsMessage t' m × (addressee_of t' m ≡ b) × (item_of (message_at t' m) ≡ y)
     known m b y (inl h) = there m b y (inl h)
-    known m b y (inr h) = told (at_snoc ms x h.0 (takes m b y) (λ e. never (cc)) h.1)
+    known m b y (inr h) = told (at_snoc ms x h.0 (takes m b y) (λ e. cc) h.1)
       where
         told :
             ((h.0 < length ms) × At ms h.0 (takes m b y)) ⊎ ((h.0 ≡ length ms) × (x ≡ takes m b y))

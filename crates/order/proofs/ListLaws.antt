@@ -1,7 +1,5 @@
 -- One more at the end of a list: what stands in it, that nothing stands twice, and what stands before what.
-use mathlib.Core.Path.{◌≡◌, refl, ap, sym}
-use mathlib.Core.Logic.{◌⊎◌, inl, inr}
-use mathlib.Core.List.{List, [], ◌∷◌, ◌++◌, map}
+use Rattle.std.proofs.Common.{◌≡◌, refl, ap, sym, ◌⊎◌, inl, inr, List, [], ◌∷◌, ◌++◌, map}
 use Rattle.order.specs.Lists.{In, Distinct, StandsBefore}
 
 module _ {A : Type 0} where

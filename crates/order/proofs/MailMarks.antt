@@ -1,14 +1,8 @@
 -- The steps that change messages and have no effect on the board: send, forward and close; and a step that is not Done.
-use Prim.Native.Nat.{◌≤◌}
-use mathlib.Core.Path.{◌≡◌, refl, ap, sym, ◌∙◌, subst}
-use mathlib.Core.Bool.{true, false}
-use mathlib.Core.List.{List}
-use lib.Dec.{lit≤}
-use native.Mathlib.Omega.{arith}
+use Rattle.std.proofs.Common.{Some, ◌≤◌, ◌≡◌, refl, ap, sym, ◌∙◌, subst, true, false, List, lit≤, arith}
 use Rattle.records.specs.declared.AgentNo.{AgentNo}
 use Rattle.records.specs.declared.SiteNo.{SiteNo}
 use Rattle.records.specs.declared.MailNo.{MailNo}
-use Rattle.records.specs.declared.Mapped.TheVariants.{At}
 use Rattle.records.specs.declared.Status.{Status}
 use Rattle.records.specs.declared.Status.TheVariants.{Queued, Out, Handed, Closed}
 use Rattle.records.specs.declared.Lock.{Lock}
@@ -18,7 +12,6 @@ use Rattle.rules.specs.declared.State.{State}
 use Rattle.rules.specs.Holding.{IsMessage, map_of, status_of, lock_of, with_status, with_lock}
 use Rattle.rules.specs.Steps.{addressee_of}
 use Rattle.preservation.proofs.AfterChange.{Seen, changed, kept}
-use Rattle.preservation.proofs.Locking.{never}
 use Rattle.preservation.proofs.OneAgent.{Good}
 use Rattle.preservation.proofs.OneMessage.{status-now}
 use Rattle.preservation.proofs.Deliveries.{forward-good, close-good}
@@ -45,7 +38,7 @@ module _ (start : State) (ms : List Mark) (t : State) (order : List Operation) (
       (new-plain start ms nothing t (λ e. omega arith) (λ e. omega arith))
       v.good
       (creations-same start ms nothing t t v.creations (omega arith) (λ e. omega arith) (λ e. omega arith))
-      (λ a. move_same start ms nothing t a v.moves refl (λ e. never (cc)) (λ e. never (cc)))
+      (λ a. move_same start ms nothing t a v.moves refl (λ e. cc) (λ e. cc))
       (mail-on
       start
       ms
@@ -57,9 +50,9 @@ module _ (start : State) (ms : List Mark) (t : State) (order : List Operation) (
       (λ m. (refl, refl))
       (λ m h. h)
       (λ m h. h)
-      (λ m b y e. never (cc))
-      (λ m e. absurd (never (cc)))
-      (λ m e. absurd (never (cc))))
+      (λ m b y e. cc)
+      (λ m e. cc)
+      (λ m e. cc))
       refl
 
   module _ (m : MailNo) (there : IsMessage t m) (x : Status) where
@@ -137,7 +130,7 @@ module _ (start : State) (ms : List Mark) (t : State) (order : List Operation) (
       → IsMessage t m
       → status_of t m ≡ Queued
       → lock_of t ≡ Unheld
-      → map_of t (addressee_of t m) ≡ At s
+      → map_of t (addressee_of t m) ≡ Some s
       → Inv start (more ms nothing) (with_lock (with_status t m (Out s)) (ForMail m)) order
   forward-on m s there e free known =
       status-quiet
@@ -150,9 +143,9 @@ module _ (start : State) (ms : List Mark) (t : State) (order : List Operation) (
       (λ q. omega arith)
       (λ q. omega arith)
       (λ a. refl)
-      (λ k q. absurd (never (cc)))
+      (λ k q. cc)
       (ap is_delivered e)
-      (λ q. never (cc))
+      (λ q. cc)
       (forward-good t v.good m there s e free known)
 
   pub close-on :
@@ -173,5 +166,5 @@ module _ (start : State) (ms : List Mark) (t : State) (order : List Operation) (
       (λ a. refl)
       (λ k q. (cc, refl))
       (ap is_delivered e)
-      (λ q. never (cc))
+      (λ q. cc)
       (close-good t v.good m there e)

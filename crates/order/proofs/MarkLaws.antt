@@ -1,19 +1,11 @@
 -- One more mark at the end: what stands at each place, and how many moves have begun before it.
-use Prim.Native.Nat.{ℕ, suc, ◌<◌, ◌≤◌, ◌+◌}
-use mathlib.Core.Path.{◌≡◌, refl, ap, sym, ◌∙◌}
-use mathlib.Core.Logic.{◌⊎◌, inl, inr}
-use mathlib.Core.Bool.{Bool, true, false, cond}
-use mathlib.Core.List.{List, [], ◌∷◌, ◌++◌}
-use lib.ListN.{length, get_or, take, drop, length-append, take-append-drop, get_or-append, get_or-eq_default}
-use lib.Seq.{get_or-append_seam, take-append-le, take-append_seam, split_at}
-use native.Mathlib.Nat.{add_assoc, zero-add}
-use native.Mathlib.Decide.{dec_lt, ℕ_discrete}
-use native.Mathlib.Omega.{arith}
-use borrow.Author.Tests.{eq-eqb}
+use Rattle.std.proofs.Common.{ℕ, suc, ◌<◌, ◌≤◌, ◌+◌, ◌≡◌, refl, ap, sym, ◌∙◌, ◌⊎◌, inl, inr, Bool, true, false, cond, List, [], ◌∷◌, ◌++◌, length, get_or, take, drop, length-append, take-append-drop, add_assoc, zero-add, arith, eq-eqb}
+use Rattle.std.proofs.Math.Decide.{dec_lt, ℕ_discrete}
+use Rattle.std.proofs.Math.ListN.{get_or-append, get_or-eq_default}
+use Rattle.std.proofs.Math.Seq.{get_or-append_seam, take-append-le, take-append_seam, split_at}
 use Rattle.records.specs.declared.AgentNo.{AgentNo}
 use Rattle.records.specs.declared.SiteNo.{SiteNo}
 use Rattle.rules.specs.declared.State.{State}
-use Rattle.preservation.proofs.Locking.{never}
 use Rattle.order.specs.Marks.{Mark, nothing, asks, asks_of, asks_in, At, moves_begun}
 
 -- a mark that says something stands at a place of the sequence
@@ -91,7 +83,7 @@ module _ (t : State) (a : AgentNo) where
   begun-less ms i u h =
       omega (
         arith,
-        ap (asks_in a) (split_at ms i nothing (at-below ms i (asks a u) (λ e. never (cc)) h)),
+        ap (asks_in a) (split_at ms i nothing (at-below ms i (asks a u) (λ e. cc) h)),
         asks_append a (take i ms) (get_or ms i nothing ∷ drop (suc i) ms),
         asks-one a (get_or ms i nothing) (drop (suc i) ms) true (ap (asks_of a) h ∙ asks-itself a u),
       )

@@ -1,13 +1,5 @@
 -- The steps that change one agent where it stands: ask, grant, book, settle and enrol. None has an effect on the board.
-use Prim.Native.Nat.{◌≤◌}
-use mathlib.Core.Path.{◌≡◌, refl, ap, sym, subst}
-use mathlib.Core.Logic.{inl, inr}
-use mathlib.Core.Bool.{false}
-use mathlib.Core.List.{List}
-use lib.ListN.{set}
-use lib.Dec.{lit≤}
-use native.Mathlib.Omega.{arith}
-use borrow.Author.Tests.{ne_eqb}
+use Rattle.std.proofs.Common.{◌≤◌, ◌≡◌, refl, ap, sym, subst, inl, inr, false, List, set, lit≤, arith, ne_eqb}
 use Rattle.records.specs.declared.AgentNo.{AgentNo}
 use Rattle.records.specs.declared.SiteNo.{SiteNo}
 use Rattle.records.specs.declared.Agent.{Agent}
@@ -16,12 +8,10 @@ use Rattle.records.specs.declared.Lock.{Lock}
 use Rattle.records.specs.declared.Lock.TheVariants.{Unheld, ForMove}
 use Rattle.records.specs.Numbers.{agent_no}
 use Rattle.records.specs.Agents.{with_phase, mapped_here}
-use Rattle.records.specs.Locks.{holding}
 use Rattle.rules.specs.declared.State.{State}
 use Rattle.rules.specs.Holding.{IsAgent, IsSite, agent_at, site_of, phase_of, lock_of, with_agent, with_lock}
 use Rattle.rules.specs.Steps.{to_phase}
 use Rattle.preservation.proofs.AfterChange.{Seen, changed, kept, seen-agent}
-use Rattle.preservation.proofs.Locking.{never}
 use Rattle.preservation.proofs.OneAgent.{Good, agent-place}
 use Rattle.preservation.proofs.Moves.{ask-good, grant-good, book-good, settle-good}
 use Rattle.preservation.proofs.Enrol.{enrol-good}
@@ -103,7 +93,7 @@ module _
         t
         t.agents
         (set t.agent a.0 y)
-        (holding l)
+        l
         v.mail
         (λ e. omega arith)
         (λ e. omega arith)
@@ -112,7 +102,7 @@ module _
 
     -- a mark that says nothing is nobody's
     silent : (b : AgentNo) → (b ≡ a → ⊥) → (asks_of b nothing ≡ false) × (nothing ≡ leaves b → ⊥) × (nothing ≡ settles b → ⊥)
-    silent b n = (refl, λ e. never (cc), λ e. never (cc))
+    silent b n = (refl, λ e. cc, λ e. cc)
 
     pub ask-on : (u : SiteNo) → IsSite t u → phase_of t a ≡ Free → Inv first (more ms (asks a u)) (to_phase t a (Asking u)) order
     ask-on u site e =
@@ -124,7 +114,7 @@ module _
         refl
         (ask-good t v.good a there u site e)
         (move-asked first ms a u)
-        (λ b n. (ne_eqb a.0 b.0 (λ q. n (ap agent_no (sym q))), λ q. never (cc), λ q. never (cc)))
+        (λ b n. (ne_eqb a.0 b.0 (λ q. n (ap agent_no (sym q))), λ q. cc, λ q. cc))
 
     pub grant-on :
         (u : SiteNo)
@@ -150,12 +140,12 @@ module _
         refl
         pend
         (λ h. ap in_move e)
-        (λ q. absurd (never (cc)))
-        (λ q. never (cc)))
+        (λ q. cc)
+        (λ q. cc))
         silent
       where
         pend : (w : SiteNo) → PendingTo (Granted u) w → PendingTo (phase_of t a) w
-        pend w (inl h) = absurd (never (cc))
+        pend w (inl h) = cc
         pend w (inr h) = inl (cc)
 
     pub book-on : phase_of t a ≡ Landed → Inv first (more ms nothing) (with_lock (with_agent t a (mapped_here (with_phase (agent_at t a) Booked))) Unheld) order
@@ -178,13 +168,13 @@ module _
         refl
         pend
         (λ h. ap in_move e)
-        (λ q. absurd (never (cc)))
-        (λ q. never (cc)))
+        (λ q. cc)
+        (λ q. cc))
         silent
       where
         pend : (w : SiteNo) → PendingTo Booked w → PendingTo (phase_of t a) w
-        pend w (inl h) = absurd (never (cc))
-        pend w (inr h) = absurd (never (cc))
+        pend w (inl h) = cc
+        pend w (inr h) = cc
 
     pub settle-on : phase_of t a ≡ Booked → Inv first (more ms (settles a)) (to_phase t a Free) order
     settle-on e =
@@ -196,7 +186,7 @@ module _
         refl
         (settle-good t v.good a there e)
         (move-idle first (more ms (settles a)) a Free refl)
-        (λ b n. (refl, λ q. never (cc), λ q. n (cc)))
+        (λ b n. (refl, λ q. cc, λ q. n (cc)))
 
     pub enrol-on :
         (p : AgentNo)

@@ -1,11 +1,6 @@
 -- send: a message begins.
-use Prim.Native.Nat.{ℕ, suc, ◌<◌}
-use mathlib.Core.Path.{◌≡◌, refl, ap, sym, ◌∙◌}
-use mathlib.Core.Logic.{◌⊎◌, inl, inr}
-use mathlib.Core.List.{List}
-use lib.Dec.{lit≤}
-use native.Mathlib.Decide.{ℕ_discrete}
-use native.Mathlib.Omega.{arith}
+use Rattle.std.proofs.Common.{ℕ, suc, ◌<◌, ◌≡◌, refl, ap, sym, ◌∙◌, ◌⊎◌, inl, inr, List, lit≤, arith}
+use Rattle.std.proofs.Math.Decide.{ℕ_discrete}
 use Rattle.records.specs.declared.AgentNo.{AgentNo}
 use Rattle.records.specs.declared.MailNo.{MailNo}
 use Rattle.records.specs.declared.Item.{Item}
@@ -18,7 +13,6 @@ use Rattle.rules.specs.Holding.{IsAgent, IsMessage, phase_of, message_at, next_m
 use Rattle.rules.specs.Steps.{sent_by, new_message}
 use Rattle.preservation.proofs.AfterChange.{Seen, changed, kept, seen-message}
 use Rattle.preservation.proofs.Families.{ChildOf}
-use Rattle.preservation.proofs.Locking.{never}
 use Rattle.preservation.proofs.Send.{send-good}
 use Rattle.preservation.proofs.Letters.{number-below}
 use Rattle.order.specs.Marks.{Mark, takes}
@@ -106,7 +100,7 @@ module _
         v
         (lit≤ tt)
         (record {
-          create = λ p c e. absurd (never (cc));
+          create = λ p c e. cc;
           take = λ m x y e k h.
               let here : new ≡ m = cc in
               let same : item_of it ≡ y = cc in (
@@ -116,7 +110,7 @@ module _
         })
         (send-good t v.good a n b w from to up next some)
         (creations-same start ms mark t after v.creations (omega arith) (λ e. omega arith) (λ e. omega arith))
-        (λ c. move_same start ms mark t c v.moves refl (λ e. never (cc)) (λ e. never (cc)))
+        (λ c. move_same start ms mark t c v.moves refl (λ e. cc) (λ e. cc))
         (mail-taken
         start
         ms

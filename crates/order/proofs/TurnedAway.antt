@@ -1,7 +1,6 @@
 -- Programs that would keep to the promises in name only: none of them meets the contract of a step on every call. Each falls to a step or two
 -- from a fresh table of three sites.
-use mathlib.Core.Path.{◌≡◌, refl, ap, sym, ◌∙◌}
-use native.Mathlib.Omega.{arith}
+use Rattle.std.proofs.Common.{◌≡◌, refl, ap, sym, ◌∙◌, arith}
 use Rattle.records.specs.declared.Code.TheVariants.{Done, Busy, NoSite}
 use Rattle.records.specs.Codes.{code_number, IsRefusal}
 use Rattle.records.specs.Numbers.{agent_no, site_no}

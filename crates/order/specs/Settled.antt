@@ -1,11 +1,10 @@
 -- What becomes of every message taken, and how far the map is right, after a sequence of steps. Assumes nothing.
-use Rattle.std.specs.Prelude.{ℕ, ◌+◌, ◌≡◌, cond, ◌&&◌, ◌⊎◌, ◌↔◌, List, [], ◌∷◌, eqb}
+use Rattle.std.specs.Prelude.{ℕ, ◌+◌, ◌≡◌, cond, ◌&&◌, ◌⊎◌, ◌↔◌, List, [], ◌∷◌, eqb, Some}
 use Rattle.records.specs.declared.AgentNo.{AgentNo}
 use Rattle.records.specs.declared.SiteNo.{SiteNo}
 use Rattle.records.specs.declared.MailNo.{MailNo}
 use Rattle.records.specs.declared.Item.{Item}
 use Rattle.records.specs.declared.Phase.TheVariants.{Born, Landed}
-use Rattle.records.specs.declared.Mapped.TheVariants.{At}
 use Rattle.records.specs.declared.Status.TheVariants.{Queued, Out}
 use Rattle.records.specs.Numbers.{same_agent}
 use Rattle.records.specs.Messages.{item_of}
@@ -56,5 +55,5 @@ pub record MapSettled (t : State) : Type 0 where
       (a : AgentNo)
       → IsAgent t a
       → ((p : AgentNo) → phase_of t a ≡ Born p → ⊥)
-      → (map_of t a ≡ At (site_of t a)) ⊎ (phase_of t a ≡ Landed)
+      → (map_of t a ≡ Some (site_of t a)) ⊎ (phase_of t a ≡ Landed)
   pub one : (a b : AgentNo) → IsAgent t a → IsAgent t b → phase_of t a ≡ Landed → phase_of t b ≡ Landed → a ≡ b

@@ -1,7 +1,5 @@
 -- What holds of a sequence of steps holds of what a caller of the methods gets.
-use Prim.Native.Nat.{ℕ}
-use mathlib.Core.Path.{◌≡◌, refl, ap, ◌∙◌}
-use mathlib.Core.List.{List}
+use Rattle.std.proofs.Common.{ℕ, ◌≡◌, refl, ap, ◌∙◌, List}
 use Rattle.records.specs.declared.Code.TheVariants.{Done}
 use Rattle.rules.specs.declared.Step.{Step}
 use Rattle.rules.specs.Steps.{open_of}

@@ -1,9 +1,12 @@
 -- Along a script every table that is open is sound and holds values of 32 bits, and every answer's number has at most three digits.
 use Prim.Native.Nat.{ℕ, ◌≤◌, ◌<◌}
+use Rattle.std.specs.Prelude.{Option, Some, None, IfSome}
 use native.Mathlib.Omega.{arith}
 use mathlib.Core.Path.{◌≡◌, refl, sym, subst}
 use mathlib.Core.Bool.{Bool, true, false, cond, ◌&&◌}
-use lib.Dec.{ltb, leb}
+use lib.Dec.{ltb, leb, eqb}
+use lib.ListN.{replicate}
+use Rattle.std.proofs.lemmas.List.{get_or-replicate, get_or_past}
 use Rattle.records.specs.declared.MailNo.{MailNo}
 use Rattle.records.specs.declared.Message.{Message}
 use Rattle.records.specs.declared.Code.{Code}
@@ -11,6 +14,7 @@ use Rattle.records.specs.declared.Code.TheVariants.{BadCount, BadLine, NotOpen, 
 use Rattle.rules.specs.declared.State.{State}
 use Rattle.rules.specs.declared.Reply.{Reply}
 use Rattle.rules.specs.declared.Step.{Step}
+use Rattle.records.specs.Codes.{code_number}
 use Rattle.records.specs.Limits.{most_sites, most_messages}
 use Rattle.rules.specs.Holding.{Shaped, message_at, no_state, next_message, with_new_message}
 use Rattle.rules.specs.Soundness.{Sound}
@@ -18,7 +22,6 @@ use Rattle.rules.specs.Answers.{done, unless}
 use Rattle.rules.specs.Steps.{opened, new_message, open_of, step_of}
 use Rattle.table.specs.declared.Table.{Table}
 use Rattle.table.specs.Face.{open_table, step_table}
-use Rattle.rules.proofs.TestRuns.{no-counts}
 use Rattle.preservation.proofs.AfterChange.{Seen, changed, kept, seen-message}
 use Rattle.preservation.proofs.Outcomes.{Went, spawned, asked, sent, enrolled, greeted, granted, leapt, booked, settled, forwarded, handed, lost, closed, Outcome, stayed, went, step-outcome}
 use Rattle.preservation.proofs.Refusals.{number-within}
@@ -26,7 +29,6 @@ use Rattle.preservation.proofs.Keeps.{step_keeps}
 use Rattle.preservation.proofs.Opening.{open-good}
 use Rattle.grammar.specs.declared.Line.{Line}
 use Rattle.grammar.specs.declared.Line.TheVariants.{Bad, Opening, Take}
-use Rattle.program.specs.declared.Desk.{Desk}
 use Rattle.program.specs.declared.Turn.{Turn}
 use Rattle.grammar.specs.Grammar.{most_number}
 use Rattle.program.specs.Program.{turned_away, opened_by, stepped_by, take_line}
@@ -70,8 +72,8 @@ pub record Fine (t : State) : Type 0 where
   pub values : Values t
 
 -- what a script has come to is fine where it is open
-abbrev pub FineDesk : Desk → Type 0
-FineDesk d = d.opened ≡ true → Fine d.table.state
+abbrev pub FineDesk : Option Table → Type 0
+FineDesk d = IfSome d (λ t. Fine t.state)
 
 -- a turn whose answer is short, and that comes to a fine table
 pub record Fits (r : Turn) : Type 0 where
@@ -79,7 +81,7 @@ pub record Fits (r : Turn) : Type 0 where
   pub desk : FineDesk r.desk
 
 -- a line that is refused before it comes to the table
-turned : (d : Desk) (c : Code) → FineDesk d → Fits (turned_away d c)
+turned : (d : Option Table) (c : Code) → FineDesk d → Fits (turned_away d c)
 turned d c f = record { number = omega arith; desk = f }
 
 -- an opening, whether its test passed or not
@@ -88,15 +90,21 @@ unnamed n true = omega arith
 unnamed n false = omega arith
 
 fresh : (n : ℕ) (b : Bool) → Values (unless b BadCount no_state (done (opened n) 0)).state
-fresh n true m = omega (arith, no-counts 512 m.0)
-fresh n false m = omega (arith, no-counts 512 m.0)
+fresh n true m = grind (arith, get_or-replicate {A = ℕ} 512 m.0 0 0, get_or_past {X = ℕ} (replicate 512 0) m.0 0)
+fresh n false m = grind (arith, get_or-replicate {A = ℕ} 512 m.0 0 0, get_or_past {X = ℕ} (replicate 512 0) m.0 0)
+
+if_open : (t : Table) (b : Bool) → (b ≡ true → Fine t.state) → FineDesk (cond b (Some t) None)
+if_open t true f = f refl
+if_open t false f = tt
 
 opening : (n : ℕ) → Fits (opened_by (open_table n))
 unfolding open_of open_table
 opening n =
     record {
       number = unnamed n (ltb 0 n && leb n most_sites);
-      desk = λ e. record { good = open-good n (opens n e); values = fresh n (ltb 0 n && leb n most_sites) };
+      desk =
+          if_open (open_table n).table (eqb (code_number (open_of n).code) 0)
+          (λ e. record { good = open-good n (opens n e); values = fresh n (ltb 0 n && leb n most_sites) });
     }
 
 -- a step, whose number is 0, a child's or a message's
@@ -105,19 +113,17 @@ unfolding step_table
 stepping t s f new =
     record {
       number = omega (arith, number-within t.state s);
-      desk = λ e.
+      desk =
           record {
             good = step_keeps t.state f.good.0 f.good.1 s;
             values = step-values t.state s (step_of t.state s) f.good.0 new f.values (step-outcome t.state s);
           };
     }
 
-which : (b : Bool) {p q : Turn} → (b ≡ true → Fits p) → Fits q → Fits (cond b p q)
-which true f g = f refl
-which false f g = g
-
-pub line-fits : (d : Desk) (x : Line) → FineDesk d → line_value x ≤ most_number → Fits (take_line d x)
+pub line-fits : (d : Option Table) (x : Line) → FineDesk d → line_value x ≤ most_number → Fits (take_line d x)
 unfolding take_line
 line-fits d Bad f new = turned d BadLine f
-line-fits d (Opening s) f new = which d.opened (λ e. turned d AlreadyOpen f) (opening s)
-line-fits d (Take s) f new = which d.opened (λ e. stepping d.table s (f e) new) (turned d NotOpen f)
+line-fits None (Opening s) f new = opening s
+line-fits (Some t) (Opening s) f new = turned (Some t) AlreadyOpen f
+line-fits None (Take s) f new = turned None NotOpen f
+line-fits (Some t) (Take s) f new = stepping t s f new

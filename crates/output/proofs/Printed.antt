@@ -1,11 +1,7 @@
 -- A run of any script into a buffer that is long enough leaves the program's output at its front, byte for byte, and the bytes past it as
 -- they were.
-use Prim.Native.Nat.{ℕ, ◌≤◌}
-use mathlib.Core.Path.{◌≡◌, refl}
-use mathlib.Core.Bool.{Bool, true, false, ◌&&◌, false≢true}
-use mathlib.Core.List.{List, ◌++◌}
-use lib.ListN.{length, drop}
-use lib.Dec.{ltb, leb, eqb}
+use Rattle.std.proofs.Common.{ℕ, ◌≤◌, ◌≡◌, refl, Bool, true, false, ◌&&◌, List, ◌++◌, length, drop, ltb, leb, eqb}
+use Rattle.std.proofs.lemmas.Bool.{false≢true}
 use Rattle.records.specs.declared.Code.TheVariants.{Done, BadCount}
 use Rattle.records.specs.Codes.{code_number}
 use Rattle.records.specs.Limits.{most_sites}

@@ -1,6 +1,7 @@
 -- The table that a script's output ends with is the one after its steps, from the table that it opened; so all that is shown of a sequence
 -- of steps holds of it.
 use Prim.Native.Nat.{ℕ, suc, ◌≤◌}
+use Rattle.std.specs.Prelude.{Option, Some, None}
 use mathlib.Core.Path.{◌≡◌, refl, ap, sym, ◌∙◌, subst}
 use mathlib.Core.Bool.{Bool, true, false, cond, ◌&&◌}
 use mathlib.Core.List.{List, [], ◌∷◌, ◌++◌, append_assoc}
@@ -14,12 +15,12 @@ use Rattle.records.specs.Limits.{most_sites}
 use Rattle.rules.specs.Holding.{no_state}
 use Rattle.rules.specs.Answers.{done, unless}
 use Rattle.rules.specs.Steps.{opened, open_of, step_of}
+use Rattle.table.specs.declared.Table.{Table}
 use Rattle.table.specs.Face.{table_of, open_table, step_table}
 use Rattle.text.specs.Decimal.{bytes}
 use Rattle.text.specs.Text.{written}
 use Rattle.grammar.specs.declared.Line.{Line}
 use Rattle.grammar.specs.declared.Line.TheVariants.{Bad, Opening, Take}
-use Rattle.program.specs.declared.Desk.{Desk}
 use Rattle.grammar.specs.Grammar.{line_of}
 use Rattle.grammar.specs.Lines.{lines_of}
 use Rattle.program.specs.Program.{no_desk, take_line, turn_line, closing, output_from, most_input, output_of}
@@ -33,8 +34,8 @@ further : (answer : List ℕ) {output text : List ℕ} → EndsWith output text 
 further answer {text = text} r =
     (answer ++ r.0, ap (λ (l : List ℕ). answer ++ l) r.1 ∙ sym (append_assoc answer r.0 text))
 
-abbrev open_desk : State → Desk
-open_desk t = record { opened = true; table = table_of t }
+abbrev open_desk : State → Option Table
+open_desk t = Some (table_of t)
 
 -- from an open table on
 open-ends : (t : State) (k : ℕ) (ls : List (List ℕ)) → EndsWith (output_from (open_desk t) k ls) (written (table_after t (steps_in ls)))
@@ -51,7 +52,7 @@ open-ends t k (l ∷ ls) = which (λ u. open-ends u (suc k) ls) (line_of l)
 -- a desk is open once an opening was Done, and until then it is as at the beginning
 opens-desk : (n : ℕ) → (open_of n).code ≡ Done → (take_line no_desk (Opening n)).desk ≡ open_desk (open_of n).state
 unfolding take_line open_table
-opens-desk n e = λ i. record { opened = eqb (code_number (e i)) 0; table = table_of (open_of n).state }
+opens-desk n e = λ i. cond (eqb (code_number (e i)) 0) (open_desk (open_of n).state) None
 
 stays-shut : (n : ℕ) → ((open_of n).code ≡ Done → ⊥) → (take_line no_desk (Opening n)).desk ≡ no_desk
 unfolding take_line open_table open_of
@@ -60,7 +61,7 @@ stays-shut n = told (ltb 0 n && leb n most_sites)
     told :
         (b : Bool)
         → ((unless b BadCount no_state (done (opened n) 0)).code ≡ Done → ⊥)
-        → ◌≡◌ {A = Desk} (record { opened = eqb (code_number (unless b BadCount no_state (done (opened n) 0)).code) 0; table = table_of (unless b BadCount no_state (done (opened n) 0)).state }) no_desk
+        → cond (eqb (code_number (unless b BadCount no_state (done (opened n) 0)).code) 0) (open_desk (unless b BadCount no_state (done (opened n) 0)).state) None ≡ no_desk
     told true h = absurd (h refl)
     told false h = refl
 
@@ -73,13 +74,13 @@ shut-ends k {n = n} (here {ls = ls} e d) =
     (sym e)
     (further (turn_line k (take_line no_desk (Opening n)))
     (subst
-    (λ (w : Desk). EndsWith (output_from w (suc k) ls) (written (table_after (open_of n).state (steps_in ls))))
+    (λ (w : Option Table). EndsWith (output_from w (suc k) ls) (written (table_after (open_of n).state (steps_in ls))))
     (sym (opens-desk n d))
     (open-ends (open_of n).state (suc k) ls)))
 shut-ends k {n = n} (later {l = l} {ls = ls} {rest = rest} not o) =
     further (turn_line k (take_line no_desk (line_of l)))
     (subst
-    (λ (w : Desk). EndsWith (output_from w (suc k) ls) (written (table_after (open_of n).state (steps_in rest))))
+    (λ (w : Option Table). EndsWith (output_from w (suc k) ls) (written (table_after (open_of n).state (steps_in rest))))
     (sym (same (line_of l) refl))
     (shut-ends (suc k) o))
   where

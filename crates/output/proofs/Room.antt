@@ -1,42 +1,33 @@
 -- The program's output has at most 1,212,416 bytes, whatever the script, so a run into a buffer of so many leaves the whole of it.
 -- A line has a byte at least, so there are at most 65,536; the answer to each has at most 18 bytes, and the table's text at most 32,768.
 use Prim.Native.Nat.{ℕ, suc, ◌+◌, ◌*◌, ◌≤◌}
+use Rattle.std.specs.Prelude.{Option, Some, None}
 use native.Mathlib.Omega.{arith}
 use mathlib.Core.Path.{◌≡◌, refl}
-use mathlib.Core.Bool.{Bool, true, false, cond, false≢true}
+use mathlib.Core.Bool.{Bool, true, false, cond}
 use mathlib.Core.List.{List, [], ◌∷◌, ◌++◌}
 use lib.ListN.{length, take, drop, length-append}
 use lib.Seq.{take-append_seam}
-use lib.Dec.{leb, eqb}
+use lib.Dec.{leb}
 use borrow.Author.Tests.{leb-true}
 use Rattle.records.specs.Codes.{code_number}
 use Rattle.records.specs.Numbers.{mail_no}
 use Rattle.records.proofs.CodeLaws.{code-within}
+use Rattle.table.specs.declared.Table.{Table}
 use Rattle.text.specs.Decimal.{decimal, bytes}
-use Rattle.text.specs.Text.{fields, written}
+use Rattle.text.specs.Text.{fields}
 use Rattle.text.proofs.Decimals.{decimal-length}
 use Rattle.text.proofs.TextLength.{two_digits, three-digits, row-length, text-fits}
-use Rattle.program.specs.declared.Desk.{Desk}
 use Rattle.program.specs.declared.Turn.{Turn}
 use Rattle.grammar.specs.Grammar.{line_of}
-use Rattle.grammar.specs.Lines.{ahead, lines_of}
+use Rattle.grammar.specs.Lines.{lines_of}
+use Rattle.grammar.proofs.LineEnds.{lines-within}
 use Rattle.program.specs.Program.{no_desk, take_line, answer_line, turn_line, closing, output_from, most_input, output_of}
 use Rattle.program.specs.Running.{Came, from, run_of}
 use Rattle.output.specs.Session.{most_output}
 use Rattle.output.proofs.Printed.{prints}
 use Rattle.output.proofs.Values.{line-value}
 use Rattle.output.proofs.Fits.{FineDesk, Fits, line-fits}
-
--- no more lines than bytes
-lines-within : (bs : List ℕ) → length (lines_of bs) ≤ length bs
-unfolding lines_of
-lines-within [] = omega arith
-lines-within (b ∷ bs) = by (eqb b 10) (lines_of bs) (lines-within bs)
-  where
-    by : (t : Bool) (ls : List (List ℕ)) → length ls ≤ length bs → length (cond t ([] ∷ ls) (ahead b ls)) ≤ suc (length bs)
-    by true ls h = omega arith
-    by false [] h = omega arith
-    by false (l ∷ ls) h = omega arith
 
 fields-length : (x y : List ℕ) → length (fields (x ∷ y ∷ [])) ≡ length x + length y + 1
 unfolding fields
@@ -57,20 +48,17 @@ answer-length k r few small =
       three-digits r.number small,
     )
 
-closing-length : (d : Desk) → FineDesk d → length (closing d) ≤ 32768
+closing-length : (d : Option Table) → FineDesk d → length (closing d) ≤ 32768
 unfolding closing
-closing-length d f = by d.opened refl
-  where
-    by : (b : Bool) → d.opened ≡ b → length (cond b (written d.table.state) (bytes "state=none\n")) ≤ 32768
-    by true e = text-fits d.table.state (f e).good.1 (λ i h. omega (arith, (f e).values (mail_no i)))
-    by false e = omega arith
+closing-length None f = omega arith
+closing-length (Some t) f = text-fits t.state f.good.1 (λ i h. omega (arith, f.values (mail_no i)))
 
 -- an answer and what follows it
 answer-then : (x y : List ℕ) (n : ℕ) → length x ≤ 18 → length y ≤ 18 * n + 32768 → length (x ++ y) ≤ 18 * suc n + 32768
 answer-then x y n one more = simp length-append (omega arith)
 
 -- the lines from the k-th on, which are few enough for K to have five digits
-lines-length : (ls : List (List ℕ)) (d : Desk) (k : ℕ) → FineDesk d → k + length ls ≤ 100000 → length (output_from d k ls) ≤ 18 * length ls + 32768
+lines-length : (ls : List (List ℕ)) (d : Option Table) (k : ℕ) → FineDesk d → k + length ls ≤ 100000 → length (output_from d k ls) ≤ 18 * length ls + 32768
 unfolding output_from
 lines-length [] d k f h = omega (arith, closing-length d f)
 lines-length (l ∷ ls) d k f h =
@@ -91,7 +79,7 @@ output-fits input = by (leb (length input) most_input) refl
     by true e =
         let lines : length (lines_of input) ≤ length input = lines-within input in
         let short : length input ≤ most_input = leb-true (length input) most_input e in
-        omega (arith, lines-length (lines_of input) no_desk 1 (λ o. absurd (false≢true o)) (omega arith))
+        omega (arith, lines-length (lines_of input) no_desk 1 tt (omega arith))
     by false e = omega arith
 
 -- So a run into a buffer of so many bytes or more leaves exactly the output.

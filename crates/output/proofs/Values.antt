@@ -4,6 +4,7 @@ use native.Mathlib.Omega.{arith}
 use mathlib.Core.Path.{◌≡◌, refl}
 use mathlib.Core.Bool.{Bool, true, false, cond, ◌&&◌}
 use mathlib.Core.List.{List, [], ◌∷◌}
+use Rattle.std.specs.Prelude.{Option, Some, None}
 use lib.ListN.{drop, get_or}
 use lib.Dec.{leb, eqb}
 use borrow.Author.Tests.{leb-true}
@@ -12,20 +13,19 @@ use Rattle.rules.specs.declared.Step.TheVariants.{Spawn, Ask, Send, Enrol, Greet
 use Rattle.grammar.specs.declared.Line.{Line}
 use Rattle.grammar.specs.declared.Line.TheVariants.{Bad, Opening, Take}
 use Rattle.grammar.specs.declared.Numeral.{Numeral}
-use Rattle.grammar.specs.declared.Numeral.TheVariants.{NoNumber, Number}
-use Rattle.grammar.specs.Grammar.{most_number, digit_run, value_from, numeral_of, Numbers, none, some, and_then, past_comma, at_end, then_numbers, numbers_of, After, other, after, after_word, Kind, kinds, said_by, by_kind, line_among, line_of}
+use Rattle.grammar.specs.Grammar.{most_number, digit_run, value_from, numeral_of, and_then, past_comma, at_end, then_numbers, numbers_of, after_word, Kind, kinds, said_by, by_kind, line_among, line_of}
 
 -- the number that was read, and the numbers of a line by their places; 0 where there is none
-abbrev read_in : Numeral → ℕ
-read_in NoNumber = 0
-read_in (Number v n) = v
+abbrev read_in : Option Numeral → ℕ
+read_in None = 0
+read_in (Some x) = x.value
 
-abbrev place_in : Numbers → ℕ → ℕ
-place_in none i = 0
-place_in (some vs) i = get_or vs i 0
+abbrev place_in : Option (List ℕ) → ℕ → ℕ
+place_in None i = 0
+place_in (Some vs) i = get_or vs i 0
 
 -- a number is read where it passes three tests, and the last is this one
-tested : (a b c : Bool) (v n : ℕ) → leb v most_number ≡ c → read_in (cond (a && (b && c)) (Number v n) NoNumber) ≤ most_number
+tested : (a b c : Bool) (v n : ℕ) → leb v most_number ≡ c → read_in (cond (a && (b && c)) (Some (record { value = v; taken = n })) None) ≤ most_number
 tested true true true v n e = leb-true v most_number e
 tested true true false v n e = omega arith
 tested true false c v n e = omega arith
@@ -37,27 +37,27 @@ numeral-within bs =
     tested (leb 1 (digit_run bs)) (leb (digit_run bs) 10) (leb (value_from 0 (digit_run bs) bs) most_number) (value_from 0 (digit_run bs) bs) (digit_run bs) refl
 
 -- the numbers of a line, one after the other
-abbrev Within : Numbers → Type 0
+abbrev Within : Option (List ℕ) → Type 0
 Within x = (i : ℕ) → place_in x i ≤ most_number
 
-one_more : (v : ℕ) (x : Numbers) → v ≤ most_number → Within x → Within (and_then v x)
-one_more v none h more i = omega arith
-one_more v (some vs) h more zero = h
-one_more v (some vs) h more (suc i) = more i
+one_more : (v : ℕ) (x : Option (List ℕ)) → v ≤ most_number → Within x → Within (and_then v x)
+one_more v None h more i = omega arith
+one_more v (Some vs) h more zero = h
+one_more v (Some vs) h more (suc i) = more i
 
-then-within : (x : Numeral) (bs : List ℕ) (next : List ℕ → Numbers) → read_in x ≤ most_number → ((rest : List ℕ) → Within (next rest)) → Within (then_numbers x bs next)
-then-within NoNumber bs next h more i = omega arith
-then-within (Number v n) bs next h more i = one_more v (next (drop n bs)) h (more (drop n bs)) i
+then-within : (x : Option Numeral) (bs : List ℕ) (next : List ℕ → Option (List ℕ)) → read_in x ≤ most_number → ((rest : List ℕ) → Within (next rest)) → Within (then_numbers x bs next)
+then-within None bs next h more i = omega arith
+then-within (Some x) bs next h more i = one_more x.value (next (drop x.taken bs)) h (more (drop x.taken bs)) i
 
 end-within : (bs : List ℕ) → Within (at_end bs)
 end-within [] i = omega arith
 end-within (b ∷ bs) i = omega arith
 
-comma-within : (bs : List ℕ) (next : List ℕ → Numbers) → ((rest : List ℕ) → Within (next rest)) → Within (past_comma bs next)
+comma-within : (bs : List ℕ) (next : List ℕ → Option (List ℕ)) → ((rest : List ℕ) → Within (next rest)) → Within (past_comma bs next)
 comma-within [] next more i = omega arith
 comma-within (b ∷ bs) next more i = by (eqb b 44)
   where
-    by : (t : Bool) → place_in (cond t (next bs) none) i ≤ most_number
+    by : (t : Bool) → place_in (cond t (next bs) None) i ≤ most_number
     by true = more bs i
     by false = omega arith
 
@@ -96,15 +96,15 @@ line_value (Take s) = step_value s
 
 -- a line by its kind, where what the kind says of such numbers is within the bound
 abbrev Says : Kind → Type 0
-Says k = (vs : List ℕ) → Within (some vs) → line_value (k.says vs) ≤ most_number
+Says k = (vs : List ℕ) → Within (Some vs) → line_value (k.says vs) ≤ most_number
 
-said : (k : Kind) (x : Numbers) → Says k → Within x → line_value (said_by k x) ≤ most_number
-said k none says h = omega arith
-said k (some vs) says h = says vs h
+said : (k : Kind) (x : Option (List ℕ)) → Says k → Within x → line_value (said_by k x) ≤ most_number
+said k None says h = omega arith
+said k (Some vs) says h = says vs h
 
-of-kind : (k : Kind) (x : After) (l : Line) → Says k → line_value l ≤ most_number → line_value (by_kind k x l) ≤ most_number
-of-kind k other l says h = h
-of-kind k (after bs) l says h = said k (numbers_of k.count bs) says (numbers-within k.count bs)
+of-kind : (k : Kind) (x : Option (List ℕ)) (l : Line) → Says k → line_value l ≤ most_number → line_value (by_kind k x l) ≤ most_number
+of-kind k None l says h = h
+of-kind k (Some bs) l says h = said k (numbers_of k.count bs) says (numbers-within k.count bs)
 
 data Each : List Kind → Type 0 where
   end : Each []
@@ -116,7 +116,7 @@ among [] bs end = omega arith
 among (k ∷ ks) bs (next says each) = of-kind k (after_word k.word bs) (line_among ks bs) says (among ks bs each)
 
 -- of the thirteen kinds only the fourth sends, and its value is the fourth number
-silent : (vs : List ℕ) → Within (some vs) → 0 ≤ most_number
+silent : (vs : List ℕ) → Within (Some vs) → 0 ≤ most_number
 silent vs h = omega arith
 
 each-kind : Each kinds

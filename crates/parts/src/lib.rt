@@ -1,20 +1,17 @@
-// What the steps share: opening, the soundness test of a whole table, places in its arrays, and the three kinds of answer.
+// What opening and steps answer with: the table that stands for none, an opened one, and what was done to a table as a reply.
 #![tactic(auto)]
 
-ghost use Rattle.std.specs.Prelude.{◌≡◌, set};
-ghost use Rattle.rules.specs.Answers.{done, refuse, repeated};
+ghost use Rattle.std.specs.Prelude.{◌≡◌};
+ghost use Rattle.rules.specs.Answers.{reply_of};
 ghost use Rattle.rules.specs.Holding.{no_state};
-ghost use Rattle.rules.specs.SoundTest.{sound_test};
 ghost use Rattle.rules.specs.Steps.{open_of};
-ghost use Rattle.rules.specs.Tests.{agent_in};
 
-use records::agents::empty_agent;
 use records::limits::{AGENT_ROOM, MESSAGE_ROOM, MOST_SITES};
-use records::{Agent, AgentNo, Code, Held, Lock, MailNo, Mapped, Phase, SiteNo, Stand, Status};
-use rules::{Reply, State};
-use soundness::sound_parts;
+use records::{Agent, AgentNo, Code, Lock, MailNo, Phase, SiteNo, Status};
+use rules::{Reply, State, Taken};
 
-// The table that stands where an answer has none: every count 0, the lock free, all room empty.
+// The table that stands where an answer has none: every count 0, the lock free, all room empty. The empty agent is written out: an array
+// of what a function answers leaves the proof open.
 pub fn none() -> State
     ensures { result ≡ no_state }
 {
@@ -23,141 +20,48 @@ pub fn none() -> State
         agents: 0,
         messages: 0,
         handed: 0,
-        held: Held { lock: Lock::Unheld },
+        lock: Lock::Unheld,
         agent: [Agent {
             site: SiteNo(0),
             phase: Phase::Free,
-            map: Mapped::Nowhere,
+            map: None,
         }; AGENT_ROOM],
         sender: [AgentNo(0); MESSAGE_ROOM],
         number: [0; MESSAGE_ROOM],
         addressee: [AgentNo(0); MESSAGE_ROOM],
         value: [0; MESSAGE_ROOM],
-        status: [Stand {
-            status: Status::Queued,
-        }; MESSAGE_ROOM],
+        status: [Status::Queued; MESSAGE_ROOM],
         log: [MailNo(0); MESSAGE_ROOM],
     }
 }
 
 // A table of so many sites with agent 0 free at site 0, mapped there; refused where the count is 0 or above 16.
+#[tactic(auto, unfolding(rules::specs::Steps::open_of))]
 pub fn opening(sites: u32) -> Reply
     ensures { result ≡ open_of sites }
 {
-    let mut table = none();
-    if sites == 0 {
-        return Reply {
-            state: table,
-            code: Code::BadCount,
-            number: 0,
-        };
+    let mut t = none();
+    if sites == 0 || sites > MOST_SITES {
+        return reply(t, Err(Code::BadCount));
     }
-    if MOST_SITES < sites {
-        return Reply {
-            state: table,
-            code: Code::BadCount,
-            number: 0,
-        };
-    }
-    let mut agent = table.agent;
-    agent[0] = Agent {
-        site: SiteNo(0),
-        phase: Phase::Free,
-        map: Mapped::At(SiteNo(0)),
+    t.sites = sites;
+    t.agents = 1;
+    t.agent[0].map = Some(SiteNo(0));
+    reply(t, Ok(Taken::Done(0)))
+}
+
+// What was done to a table in place, as a reply that hands the table back.
+pub fn reply(state: State, done: Result<Taken, Code>) -> Reply
+    ensures { result ≡ reply_of state done }
+{
+    let (code, number) = match done {
+        Ok(Taken::Done(number)) => (Code::Done, number),
+        Ok(Taken::Repeat(m)) => (Code::Repeat, m.0),
+        Err(code) => (code, 0),
     };
-    table.sites = sites;
-    table.agents = 1;
-    table.agent = agent;
     Reply {
-        state: table,
-        code: Code::Done,
-        number: 0,
+        state,
+        code,
+        number,
     }
-}
-
-// Whether the table is sound. The test takes the numbers and the arrays apart, so that no whole table is handed on.
-pub fn is_sound(t: State) -> bool
-    ensures { result ≡ sound_test t }
-{
-    let held = t.held;
-    let lock = held.lock;
-    let agent = t.agent;
-    let sender = t.sender;
-    let number = t.number;
-    let addressee = t.addressee;
-    let value = t.value;
-    let status = t.status;
-    let log = t.log;
-    sound_parts(
-        t.sites, t.agents, t.messages, t.handed, lock, agent, sender, number, addressee, value,
-        status, log,
-    )
-}
-
-// Done, with the table as it now stands and the number that the rule names.
-pub fn done(t: State, number: u32) -> Reply
-    ensures { result ≡ done t number }
-{
-    Reply {
-        state: t,
-        code: Code::Done,
-        number: number,
-    }
-}
-
-// A refusal hands the table back as it came.
-pub fn refused(t: State, code: Code) -> Reply
-    ensures { result ≡ refuse t code }
-{
-    Reply {
-        state: t,
-        code: code,
-        number: 0,
-    }
-}
-
-// A repeat names the message that was taken, and changes nothing.
-pub fn repeated(t: State, m: MailNo) -> Reply
-    ensures { result ≡ repeated t m }
-{
-    Reply {
-        state: t,
-        code: Code::Repeat,
-        number: m.0,
-    }
-}
-
-// An agent's place in the array of agents. A number past the array reads as the empty filling and stores nothing, so that a rule is
-// safe on every table.
-pub fn agent_in(agent: [Agent; AGENT_ROOM], a: AgentNo) -> Agent
-    ensures { result ≡ agent_in agent a }
-{
-    let i = a.0 as usize;
-    if i < AGENT_ROOM {
-        agent[i]
-    } else {
-        empty_agent()
-    }
-}
-
-// Stores one as the record of a, or nothing where a is past the array.
-pub fn agent_put(mut agent: [Agent; AGENT_ROOM], a: AgentNo, one: Agent) -> [Agent; AGENT_ROOM]
-    ensures { result ≡ set agent a.0 one }
-{
-    let i = a.0 as usize;
-    if i < AGENT_ROOM {
-        agent[i] = one;
-    }
-    agent
-}
-
-// The log's next place; a full log keeps what it has.
-pub fn log_put(mut log: [MailNo; MESSAGE_ROOM], handed: u32, m: MailNo) -> [MailNo; MESSAGE_ROOM]
-    ensures { result ≡ set log handed m }
-{
-    let i = handed as usize;
-    if i < MESSAGE_ROOM {
-        log[i] = m;
-    }
-    log
 }

@@ -1,11 +1,6 @@
 -- What a table reads at a place after one change: at the place changed what was put there, and elsewhere what it read before.
-use Prim.Native.Nat.{ℕ, ◌<◌}
-use mathlib.Core.Path.{◌≡◌, ap, ◌∙◌}
-use mathlib.Core.List.{List}
-use lib.ListN.{length, get_or, set}
-use lib.Seq.{get_or-set_same, get_or-set_other, lt-length-set}
-use native.Mathlib.Decide.{ℕ_discrete}
-use native.Mathlib.Omega.{arith}
+use Rattle.std.proofs.Common.{ℕ, ◌<◌, ◌≡◌, ap, ◌∙◌, List, length, get_or, set, get_or-set_same, get_or-set_other, lt-length-set, arith}
+use Rattle.std.proofs.Math.Decide.{ℕ_discrete}
 use Rattle.records.specs.declared.AgentNo.{AgentNo}
 use Rattle.records.specs.declared.MailNo.{MailNo}
 use Rattle.records.specs.declared.Agent.{Agent}
@@ -14,7 +9,7 @@ use Rattle.records.specs.declared.Status.TheVariants.{Queued}
 use Rattle.records.specs.declared.Message.{Message}
 use Rattle.records.specs.Numbers.{agent_no, mail_no}
 use Rattle.records.specs.Agents.{empty_agent}
-use Rattle.records.specs.Messages.{standing, empty_entry}
+use Rattle.records.specs.Messages.{empty_entry}
 use Rattle.rules.specs.Tests.{agent_in}
 use Rattle.rules.specs.declared.State.{State}
 use Rattle.records.specs.Limits.{most_messages}
@@ -73,8 +68,8 @@ seen-two l a b y z n ha hb c =
     told (kept e r) (kept f q) = neither e f (q ∙ r)
 
 -- the same message with another status
-abbrev pub with_stand : Message → Status → Message
-with_stand x s =
+abbrev pub in_status : Message → Status → Message
+in_status x s =
     record { sender = x.sender; number = x.number; addressee = x.addressee; value = x.value; status = s }
 
 -- another status for one message
@@ -82,14 +77,14 @@ pub seen-status :
     (t : State) (m : MailNo) (s : Status)
     → m.0 < length t.status
     → (k : MailNo)
-    → Seen k m (with_stand (message_at t m) s) (message_at t k) (message_at (with_status t m s) k)
-seen-status t m s h k = told (seen-set t.status m.0 (standing s) (standing Queued) h k.0)
+    → Seen k m (in_status (message_at t m) s) (message_at t k) (message_at (with_status t m s) k)
+seen-status t m s h k = told (seen-set t.status m.0 s Queued h k.0)
   where
     told :
-        Seen k.0 m.0 (standing s) (get_or t.status k.0 (standing Queued)) (get_or (set t.status m.0 (standing s)) k.0 (standing Queued))
-        → Seen k m (with_stand (message_at t m) s) (message_at t k) (message_at (with_status t m s) k)
-    told (changed e r) = changed (ap mail_no e) (λ i. with_stand (message_at t (mail_no (e i))) (r i).status)
-    told (kept n r) = kept (λ e. n (ap (λ (c : MailNo). c.0) e)) (λ i. with_stand (message_at t k) (r i).status)
+        Seen k.0 m.0 s (get_or t.status k.0 Queued) (get_or (set t.status m.0 s) k.0 Queued)
+        → Seen k m (in_status (message_at t m) s) (message_at t k) (message_at (with_status t m s) k)
+    told (changed e r) = changed (ap mail_no e) (λ i. in_status (message_at t (mail_no (e i))) (r i))
+    told (kept n r) = kept (λ e. n (ap (λ (c : MailNo). c.0) e)) (λ i. in_status (message_at t k) (r i))
 
 -- a new message: its five fields at the end of the five lists
 pub seen-message :
@@ -116,7 +111,7 @@ seen-message t x sh h k = which (ℕ_discrete k.0 t.messages)
           number = same t.number x.number 0 sh.number q i;
           addressee = same t.addressee x.addressee (agent_no 0) sh.addressee q i;
           value = same t.value x.value 0 sh.value q i;
-          status = (same t.status (standing x.status) (standing Queued) sh.status q i).status;
+          status = same t.status x.status Queued sh.status q i;
         })
     which (no n) =
         kept
@@ -127,7 +122,7 @@ seen-message t x sh h k = which (ℕ_discrete k.0 t.messages)
           number = get_or-set_other t.number t.messages k.0 x.number 0 n i;
           addressee = get_or-set_other t.addressee t.messages k.0 x.addressee (agent_no 0) n i;
           value = get_or-set_other t.value t.messages k.0 x.value 0 n i;
-          status = (get_or-set_other t.status t.messages k.0 (standing x.status) (standing Queued) n i).status;
+          status = get_or-set_other t.status t.messages k.0 x.status Queued n i;
         })
 
 -- one more entry in the log

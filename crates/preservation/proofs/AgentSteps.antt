@@ -1,19 +1,13 @@
 -- A step that changes agents and the lock, and nothing of messages and log: what is left to show for the next table to be sound.
-use Prim.Native.Nat.{ℕ, ◌<◌, ◌≤◌}
-use mathlib.Core.Path.{◌≡◌, sym, ◌∙◌, subst}
+use Rattle.std.proofs.Common.{Some, None, ℕ, ◌<◌, ◌≤◌, ◌≡◌, sym, ◌∙◌, subst, ◌⊎◌, ◌↔◌, false, true≢false, List, arith}
 use mathlib.Core.Logic.Iff
-use mathlib.Core.Logic.{◌⊎◌, ◌↔◌}
-use mathlib.Core.Bool.{false, true≢false}
-use mathlib.Core.List.{List}
-use native.Mathlib.Omega.{arith}
+use Rattle.records.specs.declared.Lock.{Lock}
 use Rattle.records.specs.declared.AgentNo.{AgentNo}
 use Rattle.records.specs.declared.SiteNo.{SiteNo}
 use Rattle.records.specs.declared.MailNo.{MailNo}
 use Rattle.records.specs.declared.Agent.{Agent}
-use Rattle.records.specs.declared.Held.{Held}
 use Rattle.records.specs.declared.Phase.{Phase}
 use Rattle.records.specs.declared.Phase.TheVariants.{Born, Asking, Granted, Landed}
-use Rattle.records.specs.declared.Mapped.TheVariants.{Nowhere, At}
 use Rattle.records.specs.declared.Status.TheVariants.{Out}
 use Rattle.records.specs.Numbers.{agent_no}
 use Rattle.records.specs.Agents.{empty_agent, is_moving, with_phase}
@@ -21,10 +15,9 @@ use Rattle.records.proofs.ReaderLaws.{is-moving}
 use Rattle.rules.specs.Tests.{agent_in}
 use Rattle.rules.specs.declared.State.{State}
 use Rattle.records.specs.Limits.{most_agents}
-use Rattle.rules.specs.Holding.{IsAgent, IsMessage, agent_at, site_of, message_at, status_of, with_agents, with_held}
+use Rattle.rules.specs.Holding.{IsAgent, IsMessage, agent_at, site_of, message_at, status_of, with_agents, with_lock}
 use Rattle.rules.specs.Soundness.{Sound, FamiliesMatch, LockRight, Child, Moving}
 use Rattle.preservation.proofs.Families.{ChildOf}
-use Rattle.preservation.proofs.Locking.{never}
 
 -- the phases that the lock is held for
 abbrev pub MovingIn : Phase → Type 0
@@ -41,9 +34,9 @@ pub record Alone (sites : ℕ) (x : Agent) : Type 0 where
   pub own : x.site.0 < sites
   pub asked : (u : SiteNo) → x.phase ≡ Asking u → u.0 < sites
   pub granted : (u : SiteNo) → x.phase ≡ Granted u → u.0 < sites
-  pub mapped : (s : SiteNo) → x.map ≡ At s → s.0 < sites
-  pub born : (x.map ≡ Nowhere) ↔ ((p : AgentNo) × (x.phase ≡ Born p))
-  pub map : ((p : AgentNo) → x.phase ≡ Born p → ⊥) → (x.phase ≡ Landed → ⊥) → x.map ≡ At x.site
+  pub mapped : (s : SiteNo) → x.map ≡ Some s → s.0 < sites
+  pub born : (x.map ≡ None) ↔ ((p : AgentNo) × (x.phase ≡ Born p))
+  pub map : ((p : AgentNo) → x.phase ≡ Born p → ⊥) → (x.phase ≡ Landed → ⊥) → x.map ≡ Some x.site
 
 pub alone : (t : State) → Sound t → (a : AgentNo) → IsAgent t a → Alone t.sites (agent_at t a)
 alone t s a h =
@@ -61,7 +54,7 @@ alone t s a h =
 pub alone-mapped :
     (sites : ℕ) (x : Agent) (p : Phase)
     → Alone sites x
-    → x.map ≡ At x.site
+    → x.map ≡ Some x.site
     → ((q : AgentNo) → p ≡ Born q → ⊥)
     → ((u : SiteNo) → p ≡ Asking u → u.0 < sites)
     → ((u : SiteNo) → p ≡ Granted u → u.0 < sites)
@@ -72,16 +65,16 @@ alone-mapped sites x p f m n asked granted =
       asked = asked;
       granted = granted;
       mapped = f.mapped;
-      born = (λ e. absurd (never (cc)), λ e. absurd (n e.0 e.1));
+      born = (λ e. cc, λ e. absurd (n e.0 e.1));
       map = λ b l. m;
     }
 
 -- the same table with other agents and another lock
-abbrev pub with_agents_held : State → ℕ → List Agent → Held → State
-with_agents_held t n l h = with_held (with_agents t n l) h
+abbrev pub with_agents_held : State → ℕ → List Agent → Lock → State
+with_agents_held t n l h = with_lock (with_agents t n l) h
 
 -- what is to be shown of the other agents and the other lock
-pub record AgentsFit (t : State) (n : ℕ) (l : List Agent) (h : Held) : Type 0 where
+pub record AgentsFit (t : State) (n : ℕ) (l : List Agent) (h : Lock) : Type 0 where
   pub grows : t.agents ≤ n
   pub fits : n ≤ most_agents
   pub room : (i : ℕ) → n ≤ i → agent_in l (agent_no i) ≡ empty_agent
@@ -98,7 +91,7 @@ pub record AgentsFit (t : State) (n : ℕ) (l : List Agent) (h : Held) : Type 0 
       → status_of t m ≡ Out s
       → (agent_in l (message_at t m).addressee).site ≡ site_of t (message_at t m).addressee
 
-pub agents-sound : (t : State) (n : ℕ) (l : List Agent) (h : Held) → Sound t → AgentsFit t n l h → Sound (with_agents_held t n l h)
+pub agents-sound : (t : State) (n : ℕ) (l : List Agent) (h : Lock) → Sound t → AgentsFit t n l h → Sound (with_agents_held t n l h)
 agents-sound t n l h s f =
     record {
       counts =
@@ -142,7 +135,7 @@ pub moves-same :
     (t : State) (n : ℕ) (l : List Agent)
     → ((c : AgentNo) → (IsAgent t c × Moving t c) ↔ ((c.0 < n) × MovingIn (agent_in l c).phase))
     → LockRight t
-    → LockRight (with_agents_held t n l t.held)
+    → LockRight (with_agents_held t n l t.lock)
 moves-same t n l same r =
     record {
       move = λ c. (λ e. (same c).0 ((r.move c).0 e), λ x. (r.move c).1 ((same c).1 x));

@@ -1,13 +1,7 @@
 -- Laws of counting: what a count below a number depends on, and that a list whose entries are different numbers below n is no longer
 -- than n.
-use Prim.Native.Nat.{ℕ, zero, suc, ◌<◌, ◌≤◌, ◌+◌}
-use mathlib.Core.Path.{◌≡◌, refl, ap, ap₂, sym, ◌∙◌}
-use mathlib.Core.Bool.{Bool, false}
-use lib.Dec.{eqb}
-use native.Mathlib.Nat.{not-suc-le-zero, zero-add}
-use native.Mathlib.Decide.{ℕ_discrete}
-use native.Mathlib.Omega.{arith}
-use borrow.Author.Tests.{eq-eqb, ne_eqb}
+use Rattle.std.proofs.Common.{ℕ, zero, suc, ◌<◌, ◌≤◌, ◌+◌, ◌≡◌, refl, ap, ap₂, sym, ◌∙◌, Bool, false, eqb, not-suc-le-zero, zero-add, arith, eq-eqb, ne_eqb}
+use Rattle.std.proofs.Math.Decide.{ℕ_discrete}
 use Rattle.records.specs.Places.{count_below}
 use Rattle.records.proofs.PlaceLaws.{count-hit, count-miss}
 

@@ -1,24 +1,20 @@
 -- forward and close keep a sound table sound: each changes one message's status and the lock.
-use mathlib.Core.Path.{◌≡◌, refl, ap, sym, ◌∙◌}
-use mathlib.Core.Logic.{inl, inr}
+use Rattle.std.proofs.Common.{Some, None, ◌≡◌, refl, ap, sym, ◌∙◌, inl, inr}
 use Rattle.records.specs.declared.AgentNo.{AgentNo}
 use Rattle.records.specs.declared.SiteNo.{SiteNo}
 use Rattle.records.specs.declared.MailNo.{MailNo}
 use Rattle.records.specs.declared.Phase.TheVariants.{Born, Landed}
-use Rattle.records.specs.declared.Mapped.TheVariants.{Nowhere, At}
 use Rattle.records.specs.declared.Status.{Status}
 use Rattle.records.specs.declared.Status.TheVariants.{Queued, Out, Handed, Closed, Lost}
 use Rattle.records.specs.declared.Lock.{Lock}
 use Rattle.records.specs.declared.Lock.TheVariants.{Unheld, ForMove, ForMail}
 use Rattle.records.specs.Messages.{is_delivered}
-use Rattle.records.specs.Locks.{holding}
 use Rattle.rules.specs.declared.State.{State}
 use Rattle.rules.specs.Holding.{IsAgent, IsMessage, phase_of, site_of, map_of, status_of, lock_of, log_at, with_status, with_lock}
 use Rattle.rules.specs.Soundness.{LockRight, OutToAddressee, NoneLost, LogExact}
 use Rattle.rules.specs.Steps.{addressee_of}
 use Rattle.records.proofs.ReaderLaws.{delivered-is, is-delivered}
 use Rattle.preservation.proofs.AfterChange.{Seen, changed, kept}
-use Rattle.preservation.proofs.Locking.{never}
 use Rattle.preservation.proofs.OneAgent.{Good, lock-shaped}
 use Rattle.preservation.proofs.MailSteps.{mail_of, mail-sound}
 use Rattle.preservation.proofs.OneMessage.{status-shaped, status-now, room-kept, mail-taken, mail-freed}
@@ -74,7 +70,7 @@ module _ (t : State) (g : Good t) (m : MailNo) (there : IsMessage t m) (x : Stat
     lock-shaped (with_status t m x) l (status-shaped t m x g.0),
     mail-sound
         t
-        (holding l)
+        l
         (mail_of (with_status t m x))
         g.1
         (record {
@@ -98,22 +94,22 @@ module _ (t : State) (g : Good t) (m : MailNo) (there : IsMessage t m) (x : Stat
 
 module _ (t : State) (g : Good t) (m : MailNo) (there : IsMessage t m) where
   -- while the lock is free the map of whoever is mapped is right
-  map-right : lock_of t ≡ Unheld → (b : AgentNo) (s : SiteNo) → IsAgent t b → map_of t b ≡ At s → s ≡ site_of t b
+  map-right : lock_of t ≡ Unheld → (b : AgentNo) (s : SiteNo) → IsAgent t b → map_of t b ≡ Some s → s ≡ site_of t b
   map-right free b s h e =
-      let right : map_of t b ≡ At (site_of t b) = g.1.map b h born landed in
+      let right : map_of t b ≡ Some (site_of t b) = g.1.map b h born landed in
       cc
     where
       born : (p : AgentNo) → phase_of t b ≡ Born p → ⊥
-      born p k = let none : map_of t b ≡ Nowhere = (g.1.born b h).1 (p, k) in never (cc)
+      born p k = let none : map_of t b ≡ None = (g.1.born b h).1 (p, k) in cc
 
       landed : phase_of t b ≡ Landed → ⊥
-      landed k = let held : lock_of t ≡ ForMove b = (g.1.lock.move b).1 (h, inr k) in never (cc)
+      landed k = let held : lock_of t ≡ ForMove b = (g.1.lock.move b).1 (h, inr k) in cc
 
   pub forward-good :
       (s : SiteNo)
       → status_of t m ≡ Queued
       → lock_of t ≡ Unheld
-      → map_of t (addressee_of t m) ≡ At s
+      → map_of t (addressee_of t m) ≡ Some s
       → Good (with_lock (with_status t m (Out s)) (ForMail m))
   forward-good s e free known =
       status-good
@@ -125,7 +121,7 @@ module _ (t : State) (g : Good t) (m : MailNo) (there : IsMessage t m) where
       (ForMail m)
       (mail-taken t g m there (Out s) free (inl (s, refl)))
       (λ u k. let same : s ≡ u = cc in sym same ∙ map-right free (addressee_of t m) s (g.1.parties.addressee m there) known)
-      (λ k. never (cc))
+      (λ k. cc)
       (sym (ap is_delivered e))
 
   pub close-good : status_of t m ≡ Handed → Good (with_lock (with_status t m Closed) Unheld)
@@ -138,6 +134,6 @@ module _ (t : State) (g : Good t) (m : MailNo) (there : IsMessage t m) where
       Closed
       Unheld
       (mail-freed t g m there Closed (inr e) refl)
-      (λ u k. absurd (never (cc)))
-      (λ k. never (cc))
+      (λ u k. cc)
+      (λ k. cc)
       (sym (ap is_delivered e))

@@ -1,6 +1,5 @@
 -- enrol keeps a sound table sound: it changes the child alone, and nothing that its parent can see.
-use mathlib.Core.Path.{◌≡◌, refl, ap, subst}
-use mathlib.Core.Logic.{inl, inr}
+use Rattle.std.proofs.Common.{◌≡◌, refl, ap, subst, inl, inr}
 use Rattle.records.specs.declared.AgentNo.{AgentNo}
 use Rattle.records.specs.declared.Phase.TheVariants.{Born, Enrolled}
 use Rattle.records.specs.Agents.{is_moving, with_phase, mapped_here}
@@ -8,7 +7,6 @@ use Rattle.rules.specs.declared.State.{State}
 use Rattle.rules.specs.Holding.{IsAgent, IsSite, agent_at, phase_of, lock_of, with_agent}
 use Rattle.preservation.proofs.Families.{ChildOf}
 use Rattle.preservation.proofs.AgentSteps.{not-moving}
-use Rattle.preservation.proofs.Locking.{never}
 use Rattle.preservation.proofs.OneAgent.{Good, one-agent, move-left}
 
 pub enrol-good :
@@ -28,14 +26,14 @@ enrol-good t g b p there e =
     (lock_of t)
     (record {
       own = g.1.sites.own b there;
-      asked = λ w h. absurd (never (cc));
-      granted = λ w h. absurd (never (cc));
+      asked = λ w h. cc;
+      granted = λ w h. cc;
       mapped = λ s h. subst (IsSite t) (cc) (g.1.sites.own b there);
-      born = (λ h. absurd (never (cc)), λ h. absurd (never (cc h.1)));
+      born = (λ h. cc, λ h. cc h.1);
       map = λ n l. refl;
     })
     (record {
-      spawning = λ c. (λ h. absurd (never (cc)), λ h. absurd (never (cc)));
+      spawning = λ c. (λ h. cc, λ h. cc);
       child = λ q. (was q, now q);
       parent_stays = λ c h. refl;
       child_stays = λ q h. refl;
@@ -45,8 +43,8 @@ enrol-good t g b p there e =
   where
     was : (q : AgentNo) → ChildOf (phase_of t b) q → ChildOf (Enrolled p) q
     was q (inl h) = inr (cc)
-    was q (inr h) = absurd (never (cc))
+    was q (inr h) = cc
 
     now : (q : AgentNo) → ChildOf (Enrolled p) q → ChildOf (phase_of t b) q
-    now q (inl h) = absurd (never (cc))
+    now q (inl h) = cc
     now q (inr h) = inl (cc)

@@ -1,14 +1,8 @@
 -- greet keeps a sound table sound: child and parent are free, and stand where they stood; any other agent is as it was.
-use Prim.Native.Nat.{ℕ, ◌≤◌}
-use mathlib.Core.Path.{◌≡◌, ap, sym, ◌∙◌}
-use mathlib.Core.Logic.{◌⊎◌, inl, inr, ◌↔◌}
-use mathlib.Core.Bool.{false}
-use lib.Seq.{get_or-set_other}
-use native.Mathlib.Omega.{arith}
+use Rattle.std.proofs.Common.{Some, ℕ, ◌≤◌, ◌≡◌, ap, sym, ◌∙◌, ◌⊎◌, inl, inr, ◌↔◌, false, get_or-set_other, arith}
 use Rattle.records.specs.declared.AgentNo.{AgentNo}
 use Rattle.records.specs.declared.Agent.{Agent}
 use Rattle.records.specs.declared.Phase.TheVariants.{Free, Spawning, Enrolled}
-use Rattle.records.specs.declared.Mapped.TheVariants.{At}
 use Rattle.records.specs.Numbers.{agent_no}
 use Rattle.records.specs.Agents.{empty_agent, is_moving, with_phase}
 use Rattle.rules.specs.declared.State.{State}
@@ -18,7 +12,6 @@ use Rattle.rules.specs.Steps.{to_phase}
 use Rattle.preservation.proofs.AfterChange.{SeenTwo, first, second, neither, seen-two}
 use Rattle.preservation.proofs.Families.{ChildOf}
 use Rattle.preservation.proofs.AgentSteps.{MovingIn, not-moving, Alone, alone, alone-mapped, moving-as, moves-same, agents-sound}
-use Rattle.preservation.proofs.Locking.{never}
 use Rattle.preservation.proofs.OneAgent.{Good, agent-place, agents-shaped}
 
 module _ (t : State) (g : Good t) (b p : AgentNo) (there : IsAgent t b) (e : phase_of t b ≡ Enrolled p) where
@@ -26,7 +19,7 @@ module _ (t : State) (g : Good t) (b p : AgentNo) (there : IsAgent t b) (e : pha
   parent = g.1.families.parent p b there (inr e)
 
   apart : b ≡ p → ⊥
-  apart q = let s : phase_of t p ≡ Spawning b = parent.1 in never (cc)
+  apart q = let s : phase_of t p ≡ Spawning b = parent.1 in cc
 
   abbrev pub after : State
   after = to_phase (to_phase t b Free) p Free
@@ -74,13 +67,13 @@ module _ (t : State) (g : Good t) (b p : AgentNo) (there : IsAgent t b) (e : pha
       Free
       (alone t g.1 c h)
       (mapped w)
-      (λ q f. never (cc))
-      (λ u f. absurd (never (cc)))
-      (λ u f. absurd (never (cc)))
+      (λ q f. cc)
+      (λ u f. cc)
+      (λ u f. cc)
     where
-      mapped : ((c ≡ b) × (phase_of t c ≡ Enrolled p)) ⊎ ((c ≡ p) × (phase_of t c ≡ Spawning b)) → (agent_at t c).map ≡ At (site_of t c)
-      mapped (inl f) = g.1.map c h (λ q k. never (cc f.1)) (λ k. never (cc f.1))
-      mapped (inr f) = g.1.map c h (λ q k. never (cc f.1)) (λ k. never (cc f.1))
+      mapped : ((c ≡ b) × (phase_of t c ≡ Enrolled p)) ⊎ ((c ≡ p) × (phase_of t c ≡ Spawning b)) → (agent_at t c).map ≡ Some (site_of t c)
+      mapped (inl f) = g.1.map c h (λ q k. cc f.1) (λ k. cc f.1)
+      mapped (inr f) = g.1.map c h (λ q k. cc f.1) (λ k. cc f.1)
 
   each : (c : AgentNo) → IsAgent t c → Alone t.sites (agent_at after c)
   each c h = told (now c)
@@ -108,15 +101,15 @@ module _ (t : State) (g : Good t) (b p : AgentNo) (there : IsAgent t b) (e : pha
   still-spawning a c h = told (now a)
     where
       told : Now a → (phase_of t a ≡ Spawning c) × (a ≡ p → ⊥)
-      told (freed i w r) = absurd (never (cc))
+      told (freed i w r) = cc
       told (other n m r) = (cc, m)
 
   still-child : (a c : AgentNo) → ChildOf (phase_of after c) a → Child t a c × (c ≡ b → ⊥)
   still-child a c h = told (now c) h
     where
       told : Now c → ChildOf (phase_of after c) a → Child t a c × (c ≡ b → ⊥)
-      told (freed i w r) (inl k) = absurd (never (cc))
-      told (freed i w r) (inr k) = absurd (never (cc))
+      told (freed i w r) (inl k) = cc
+      told (freed i w r) (inr k) = cc
       told (other n m r) (inl k) = (inl (cc), n)
       told (other n m r) (inr k) = (inr (cc), n)
 
@@ -155,10 +148,10 @@ module _ (t : State) (g : Good t) (b p : AgentNo) (there : IsAgent t b) (e : pha
       now-child a c k n = told (now c) k
         where
           told : Now c → Child t a c → Child after a c
-          told (freed i (inl f) r) (inl x) = absurd (never (cc f.1))
+          told (freed i (inl f) r) (inl x) = cc f.1
           told (freed i (inl f) r) (inr x) = absurd (n (cc f.1))
-          told (freed i (inr f) r) (inl x) = absurd (never (cc f.1))
-          told (freed i (inr f) r) (inr x) = absurd (never (cc f.1))
+          told (freed i (inr f) r) (inl x) = cc f.1
+          told (freed i (inr f) r) (inr x) = cc f.1
           told (other d m r) (inl x) = inl (cc)
           told (other d m r) (inr x) = inr (cc)
 
@@ -166,7 +159,7 @@ module _ (t : State) (g : Good t) (b p : AgentNo) (there : IsAgent t b) (e : pha
       now-spawning a c k n = told (now a)
         where
           told : Now a → phase_of after a ≡ Spawning c
-          told (freed i (inl f) r) = absurd (never (cc f.1))
+          told (freed i (inl f) r) = cc f.1
           told (freed i (inr f) r) = absurd (n (cc f.1))
           told (other d m r) = cc
 
@@ -177,7 +170,7 @@ module _ (t : State) (g : Good t) (b p : AgentNo) (there : IsAgent t b) (e : pha
         t
         t.agents
         after.agent
-        t.held
+        t.lock
         g.1
         (record {
           grows = omega arith;

@@ -1,12 +1,7 @@
 -- hand keeps a sound table sound. There is room in the log: it holds each delivered message once, and the one that is out not at all.
-use Prim.Native.Nat.{ℕ, suc, ◌<◌, ◌≤◌}
-use mathlib.Core.Path.{◌≡◌, refl, ap, sym, ◌∙◌, subst}
-use mathlib.Core.Logic.{inl, inr}
-use mathlib.Core.Bool.{Bool, true, false, false≢true}
-use lib.ListN.{length-set}
-use native.Mathlib.Decide.{ℕ_discrete}
-use native.Mathlib.Omega.{arith}
-use borrow.Author.Tests.{eq-eqb, ne_eqb}
+use Rattle.std.proofs.Common.{ℕ, suc, ◌<◌, ◌≤◌, ◌≡◌, refl, ap, sym, ◌∙◌, subst, inl, inr, Bool, true, false, length-set, arith, eq-eqb, ne_eqb}
+use Rattle.std.proofs.Math.Decide.{ℕ_discrete}
+use Rattle.std.proofs.lemmas.Bool.{false≢true}
 use Rattle.records.specs.declared.SiteNo.{SiteNo}
 use Rattle.records.specs.declared.MailNo.{MailNo}
 use Rattle.records.specs.declared.Status.TheVariants.{Out, Handed}
@@ -22,7 +17,6 @@ use Rattle.records.proofs.ReaderLaws.{delivered-is, is-delivered}
 use Rattle.preservation.proofs.Counting.{count_none, fewer}
 use Rattle.preservation.proofs.Shapes.{shaped-log}
 use Rattle.preservation.proofs.AfterChange.{Seen, changed, kept, seen_entry}
-use Rattle.preservation.proofs.Locking.{never}
 use Rattle.preservation.proofs.OneAgent.{Good}
 use Rattle.preservation.proofs.MailSteps.{mail_of, mail-sound}
 use Rattle.preservation.proofs.OneMessage.{status-shaped, status-now, room-kept, mail-left}
@@ -126,7 +120,7 @@ module _ (t : State) (g : Good t) (m : MailNo) (there : IsMessage t m) (s : Site
     shaped-log (with_status t m Handed) (status-shaped t m Handed g.0) _ _ (length-set t.log t.handed m),
     mail-sound
         t
-        t.held
+        t.lock
         (mail_of after)
         g.1
         (record {
@@ -137,8 +131,8 @@ module _ (t : State) (g : Good t) (m : MailNo) (there : IsMessage t m) (s : Site
           lock =
               let right = mail-left t g m there Handed (inl (s, e)) (inr refl) in
               record { move = right.move; mail = right.mail };
-          out = out-now t g m there Handed (λ u k. absurd (never (cc)));
-          lost = lost-now t g m there Handed (λ k. never (cc));
+          out = out-now t g m there Handed (λ u k. cc);
+          lost = lost-now t g m there Handed (λ k. cc);
           parties =
               record {
                 sender = g.1.parties.sender;

@@ -1,9 +1,5 @@
 -- Every step, refused or not, keeps a sound table sound; and a sound table never comes to lost.
-use Prim.Native.Nat.{ℕ}
-use mathlib.Core.Path.{◌≡◌, ap, sym, subst}
-use mathlib.Core.Bool.{Bool}
-use borrow.Author.Tests.{lt-ltb, eq-eqb}
-use mathlib.Core.List.{[], ◌∷◌}
+use Rattle.std.proofs.Common.{ℕ, ◌≡◌, ap, sym, subst, Bool, lt-ltb, eq-eqb, [], ◌∷◌}
 use Rattle.records.specs.declared.SiteNo.{SiteNo}
 use Rattle.records.specs.declared.MailNo.{MailNo}
 use Rattle.records.specs.declared.Status.TheVariants.{Out, Handed}

@@ -1,9 +1,6 @@
 -- A message is known by its sender and its sender's number.
-use Prim.Native.Nat.{ℕ, suc, ◌<◌, ◌≤◌}
-use mathlib.Core.Path.{◌≡◌, refl, ap, ◌∙◌}
-use native.Mathlib.Decide.{dec_lt}
-use native.Mathlib.Omega.{arith}
-use borrow.Author.Tests.{eq-eqb}
+use Rattle.std.proofs.Common.{ℕ, suc, ◌<◌, ◌≤◌, ◌≡◌, refl, ap, ◌∙◌, arith, eq-eqb}
+use Rattle.std.proofs.Math.Decide.{dec_lt}
 use Rattle.records.specs.declared.AgentNo.{AgentNo}
 use Rattle.records.specs.declared.MailNo.{MailNo}
 use Rattle.records.specs.Numbers.{mail_no, same_agent}

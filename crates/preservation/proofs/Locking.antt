@@ -1,19 +1,12 @@
 -- The lock is right again after it was taken, given back, or left alone, where at most one agent or one message changed.
-use Prim.Native.Nat.{ℕ}
-use mathlib.Core.Path.{◌≡◌, refl, ap, sym, ◌∙◌, subst}
-use mathlib.Core.Logic.{◌↔◌}
-use native.Mathlib.Decide.{ℕ_discrete}
-use native.Mathlib.Omega.{arith}
+use Rattle.std.proofs.Common.{ℕ, ◌≡◌, refl, ap, sym, ◌∙◌, subst, ◌↔◌}
+use Rattle.std.proofs.Math.Decide.{ℕ_discrete}
 use Rattle.records.specs.declared.Lock.{Lock}
 use Rattle.records.specs.declared.Lock.TheVariants.{Unheld, ForMove, ForMail}
 use Rattle.records.specs.Numbers.{agent_no, mail_no}
 use Rattle.rules.specs.declared.State.{State}
 use Rattle.rules.specs.Holding.{IsAgent, IsMessage, lock_of}
 use Rattle.rules.specs.Soundness.{LockRight, Moving, UnderWay}
-
--- two different values of one thing
-pub never : ◌≡◌ {A = ℕ} 0 1 → ⊥
-never e = omega arith
 
 -- what wants the lock to be held so
 abbrev pub Wants : State → Lock → Type 0
@@ -33,23 +26,23 @@ held-right t r (ForMail m) n = r.mail m
 pub lock-right : (t : State) → HeldRight (lock_of t) (Wants t) → LockRight t
 lock-right t h =
     record {
-      move = λ a. h (ForMove a) (λ e. never (cc));
-      mail = λ m. h (ForMail m) (λ e. never (cc));
+      move = λ a. h (ForMove a) (λ e. cc);
+      mail = λ m. h (ForMail m) (λ e. cc);
     }
 
 pub lock-same : (j k : Lock) → Dec (j ≡ k)
 lock-same Unheld Unheld = yes refl
-lock-same Unheld (ForMove a) = no (λ e. never (cc))
-lock-same Unheld (ForMail m) = no (λ e. never (cc))
-lock-same (ForMove b) Unheld = no (λ e. never (cc))
+lock-same Unheld (ForMove a) = no (λ e. cc)
+lock-same Unheld (ForMail m) = no (λ e. cc)
+lock-same (ForMove b) Unheld = no (λ e. cc)
 lock-same (ForMove b) (ForMove a) = which (ℕ_discrete b.0 a.0)
   where
     which : Dec (b.0 ≡ a.0) → Dec (ForMove b ≡ ForMove a)
     which (yes e) = yes (ap (λ (n : ℕ). ForMove (agent_no n)) e)
     which (no n) = no (λ e. n (cc))
-lock-same (ForMove b) (ForMail m) = no (λ e. never (cc))
-lock-same (ForMail n) Unheld = no (λ e. never (cc))
-lock-same (ForMail n) (ForMove a) = no (λ e. never (cc))
+lock-same (ForMove b) (ForMail m) = no (λ e. cc)
+lock-same (ForMail n) Unheld = no (λ e. cc)
+lock-same (ForMail n) (ForMove a) = no (λ e. cc)
 lock-same (ForMail n) (ForMail m) = which (ℕ_discrete n.0 m.0)
   where
     which : Dec (n.0 ≡ m.0) → Dec (ForMail n ≡ ForMail m)

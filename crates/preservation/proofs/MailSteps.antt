@@ -1,16 +1,14 @@
 -- A step that changes messages, the log and the lock, and nothing of agents: what is left to show for the next table to be sound.
-use Prim.Native.Nat.{ℕ, ◌≤◌}
-use mathlib.Core.Path.{◌≡◌, sym, subst}
-use mathlib.Core.List.{List}
+use Rattle.std.proofs.Common.{ℕ, ◌≤◌, ◌≡◌, sym, subst, List}
+use Rattle.records.specs.declared.Lock.{Lock}
+use Rattle.records.specs.declared.Status.{Status}
 use Rattle.records.specs.declared.AgentNo.{AgentNo}
 use Rattle.records.specs.declared.MailNo.{MailNo}
-use Rattle.records.specs.declared.Stand.{Stand}
-use Rattle.records.specs.declared.Held.{Held}
 use Rattle.records.specs.Numbers.{mail_no}
 use Rattle.records.specs.Messages.{empty_message, empty_entry}
 use Rattle.rules.specs.declared.State.{State}
 use Rattle.records.specs.Limits.{most_messages}
-use Rattle.rules.specs.Holding.{IsSite, message_at, log_at, with_held, with_messages, with_log}
+use Rattle.rules.specs.Holding.{IsSite, message_at, log_at, with_lock, with_messages, with_log}
 use Rattle.rules.specs.Soundness.{Sound, LockRight, OutToAddressee, NoneLost, PartiesThere, NumbersRun, LogExact}
 
 -- the lists that hold messages and log, and their counts
@@ -21,7 +19,7 @@ pub record Mail : Type 0 where
   pub number : List ℕ
   pub addressee : List AgentNo
   pub value : List ℕ
-  pub status : List Stand
+  pub status : List Status
   pub log : List MailNo
 
 abbrev pub mail_of : State → Mail
@@ -38,9 +36,9 @@ mail_of t =
     }
 
 -- the same table with other messages, another log and another lock
-abbrev pub with_mail : State → Held → Mail → State
+abbrev pub with_mail : State → Lock → Mail → State
 with_mail t h x =
-    with_held
+    with_lock
     (with_log
     (with_messages t x.messages x.sender x.number x.addressee x.value x.status)
     x.handed
@@ -48,7 +46,7 @@ with_mail t h x =
     h
 
 -- what is to be shown of them
-pub record MailFits (t : State) (h : Held) (x : Mail) : Type 0 where
+pub record MailFits (t : State) (h : Lock) (x : Mail) : Type 0 where
   pub messages_fit : x.messages ≤ most_messages
   pub log_fits : x.handed ≤ most_messages
   pub room : (i : ℕ) → x.messages ≤ i → message_at (with_mail t h x) (mail_no i) ≡ empty_message
@@ -60,7 +58,7 @@ pub record MailFits (t : State) (h : Held) (x : Mail) : Type 0 where
   pub numbers : NumbersRun (with_mail t h x)
   pub log : LogExact (with_mail t h x)
 
-pub mail-sound : (t : State) (h : Held) (x : Mail) → Sound t → MailFits t h x → Sound (with_mail t h x)
+pub mail-sound : (t : State) (h : Lock) (x : Mail) → Sound t → MailFits t h x → Sound (with_mail t h x)
 mail-sound t h x s f =
     record {
       counts =

@@ -1,13 +1,10 @@
 -- The five steps of a move keep a sound table sound: each changes one agent that is part of no creation.
-use mathlib.Core.Path.{◌≡◌, refl, ap, subst}
-use mathlib.Core.Logic.{inl, inr}
-use mathlib.Core.Bool.{false}
+use Rattle.std.proofs.Common.{Some, ◌≡◌, refl, ap, subst, inl, inr, false}
 use Rattle.records.specs.declared.AgentNo.{AgentNo}
 use Rattle.records.specs.declared.SiteNo.{SiteNo}
 use Rattle.records.specs.declared.MailNo.{MailNo}
 use Rattle.records.specs.declared.Phase.{Phase}
 use Rattle.records.specs.declared.Phase.TheVariants.{Free, Born, Asking, Granted, Landed, Booked}
-use Rattle.records.specs.declared.Mapped.TheVariants.{At}
 use Rattle.records.specs.declared.Status.TheVariants.{Out}
 use Rattle.records.specs.declared.Lock.TheVariants.{Unheld, ForMove, ForMail}
 use Rattle.records.specs.Agents.{is_moving, with_phase, moved_to, mapped_here}
@@ -16,7 +13,6 @@ use Rattle.rules.specs.Holding.{IsAgent, IsSite, IsMessage, agent_at, site_of, p
 use Rattle.rules.specs.Steps.{to_phase}
 use Rattle.preservation.proofs.Families.{in_family, not-child, kin-apart}
 use Rattle.preservation.proofs.AgentSteps.{not-moving, Alone, alone, alone-mapped}
-use Rattle.preservation.proofs.Locking.{never}
 use Rattle.preservation.proofs.OneAgent.{Good, one-agent, move-left, move_taken, move-freed}
 
 module _ (t : State) (g : Good t) (a : AgentNo) (there : IsAgent t a) where
@@ -52,10 +48,10 @@ module _ (t : State) (g : Good t) (a : AgentNo) (there : IsAgent t a) where
       (phase-alone
       (Asking u)
       (ap in_family e)
-      (λ h. never (cc))
-      (λ q h. never (cc))
+      (λ h. cc)
+      (λ q h. cc)
       (λ w h. subst (IsSite t) (cc) site)
-      (λ w h. absurd (never (cc))))
+      (λ w h. cc))
       (kin-apart _ _ (ap in_family e) refl)
       (λ m h s o. refl)
       (move-left t g a there _ (λ w. absurd (not-moving _ (ap is_moving e) w), λ w. absurd (not-moving (Asking u) refl w)))
@@ -72,9 +68,9 @@ module _ (t : State) (g : Good t) (a : AgentNo) (there : IsAgent t a) where
       (phase-alone
       (Granted u)
       (ap in_family e)
-      (λ h. never (cc))
-      (λ q h. never (cc))
-      (λ w h. absurd (never (cc)))
+      (λ h. cc)
+      (λ q h. cc)
+      (λ w h. cc)
       (λ w h. subst (IsSite t) (cc) (g.1.sites.asked a there u e)))
       (kin-apart _ _ (ap in_family e) refl)
       (λ m h s o. refl)
@@ -85,7 +81,7 @@ module _ (t : State) (g : Good t) (a : AgentNo) (there : IsAgent t a) where
   none_out u e m h s o =
       let move : lock_of t ≡ ForMove a = (g.1.lock.move a).1 (there, inl (u, e)) in
       let mail : lock_of t ≡ ForMail m = (g.1.lock.mail m).1 (h, inl (s, o)) in
-      never (cc)
+      cc
 
   pub leap-good : (u : SiteNo) → phase_of t a ≡ Granted u → Good (with_agent t a (moved_to (with_phase (agent_at t a) Landed) u))
   leap-good u e =
@@ -98,18 +94,18 @@ module _ (t : State) (g : Good t) (a : AgentNo) (there : IsAgent t a) where
       (lock_of t)
       (record {
         own = g.1.sites.granted a there u e;
-        asked = λ w h. absurd (never (cc));
-        granted = λ w h. absurd (never (cc));
+        asked = λ w h. cc;
+        granted = λ w h. cc;
         mapped = g.1.sites.mapped a there;
-        born = (λ h. absurd (never (cc mapped)), λ h. absurd (never (cc h.1)));
+        born = (λ h. cc mapped, λ h. cc h.1);
         map = λ b l. absurd (l refl);
       })
       (kin-apart _ _ (ap in_family e) refl)
       (λ m h s o. absurd (none_out u e m h s o))
       (move-left t g a there _ (λ w. inr refl, λ w. inl (u, e)))
     where
-      mapped : (agent_at t a).map ≡ At (site_of t a)
-      mapped = g.1.map a there (λ q h. never (cc)) (λ h. never (cc))
+      mapped : (agent_at t a).map ≡ Some (site_of t a)
+      mapped = g.1.map a there (λ q h. cc) (λ h. cc)
 
   pub book-good : phase_of t a ≡ Landed → Good (with_lock (with_agent t a (mapped_here (with_phase (agent_at t a) Booked))) Unheld)
   book-good e =
@@ -122,10 +118,10 @@ module _ (t : State) (g : Good t) (a : AgentNo) (there : IsAgent t a) where
       Unheld
       (record {
         own = g.1.sites.own a there;
-        asked = λ w h. absurd (never (cc));
-        granted = λ w h. absurd (never (cc));
+        asked = λ w h. cc;
+        granted = λ w h. cc;
         mapped = λ s h. subst (IsSite t) (cc) (g.1.sites.own a there);
-        born = (λ h. absurd (never (cc)), λ h. absurd (never (cc h.1)));
+        born = (λ h. cc, λ h. cc h.1);
         map = λ b l. refl;
       })
       (kin-apart _ _ (ap in_family e) refl)
@@ -144,10 +140,10 @@ module _ (t : State) (g : Good t) (a : AgentNo) (there : IsAgent t a) where
       (phase-alone
       Free
       (ap in_family e)
-      (λ h. never (cc))
-      (λ q h. never (cc))
-      (λ w h. absurd (never (cc)))
-      (λ w h. absurd (never (cc))))
+      (λ h. cc)
+      (λ q h. cc)
+      (λ w h. cc)
+      (λ w h. cc))
       (kin-apart _ _ (ap in_family e) refl)
       (λ m h s o. refl)
       (move-left t g a there _ (λ w. absurd (not-moving _ (ap is_moving e) w), λ w. absurd (not-moving Free refl w)))

@@ -1,10 +1,5 @@
 -- A step that changes one agent, and perhaps the lock: what is left to show of it.
-use Prim.Native.Nat.{ℕ, ◌<◌, ◌≤◌}
-use mathlib.Core.Path.{◌≡◌, refl, ap, ◌∙◌}
-use mathlib.Core.Logic.{◌↔◌}
-use mathlib.Core.Bool.{false}
-use lib.ListN.{length, set, length-set}
-use native.Mathlib.Omega.{arith}
+use Rattle.std.proofs.Common.{ℕ, ◌<◌, ◌≤◌, ◌≡◌, refl, ap, ◌∙◌, ◌↔◌, false, length, set, length-set, arith}
 use Rattle.records.specs.declared.AgentNo.{AgentNo}
 use Rattle.records.specs.declared.SiteNo.{SiteNo}
 use Rattle.records.specs.declared.MailNo.{MailNo}
@@ -14,11 +9,10 @@ use Rattle.records.specs.declared.Lock.{Lock}
 use Rattle.records.specs.declared.Lock.TheVariants.{Unheld, ForMove, ForMail}
 use Rattle.records.specs.Numbers.{agent_no}
 use Rattle.records.specs.Agents.{empty_agent, is_moving}
-use Rattle.records.specs.Locks.{holding}
 use Rattle.rules.specs.declared.State.{State}
 use Rattle.rules.specs.Holding.{Shaped, IsAgent, IsMessage, agent_at, site_of, status_of, message_at, lock_of, with_agent, with_lock}
 use Rattle.rules.specs.Soundness.{Sound, LockRight}
-use Rattle.preservation.proofs.Shapes.{shaped-agents, shaped-held}
+use Rattle.preservation.proofs.Shapes.{shaped-agents, shaped-lock}
 use Rattle.preservation.proofs.AfterChange.{Seen, changed, kept, seen-agent}
 use Rattle.preservation.proofs.Families.{Kin, kin-self, kin-families}
 use Rattle.preservation.proofs.AgentSteps.{MovingIn, not-moving, moving-as, Alone, alone, agents-sound}
@@ -32,7 +26,7 @@ pub agents-shaped : (t : State) (a : AgentNo) (y : Agent) → Shaped t → Shape
 agents-shaped t a y s = shaped-agents t s t.agents _ (length-set t.agent a.0 y)
 
 pub lock-shaped : (t : State) (l : Lock) → Shaped t → Shaped (with_lock t l)
-lock-shaped t l s = shaped-held t s (holding l)
+lock-shaped t l s = shaped-lock t s l
 
 -- an agent that is there has a place in the list
 pub agent-place : (t : State) (a : AgentNo) → Good t → a.0 < t.agents → a.0 < length t.agent
@@ -85,7 +79,7 @@ module _ (t : State) (g : Good t) (a : AgentNo) (there : IsAgent t a) (y : Agent
         t
         t.agents
         (set t.agent a.0 y)
-        (holding l)
+        l
         g.1
         (record {
           grows = omega arith;

@@ -1,11 +1,6 @@
 -- A step that changes one message's status: what is read of every message then, and the lock that is right again.
-use Prim.Native.Nat.{ℕ, ◌≤◌}
-use mathlib.Core.Path.{◌≡◌, refl, ap, sym, ◌∙◌, subst}
+use Rattle.std.proofs.Common.{ℕ, ◌≤◌, ◌≡◌, refl, ap, sym, ◌∙◌, subst, ◌⊎◌, ◌↔◌, false, true≢false, length-set, arith}
 use mathlib.Core.Logic.Iff
-use mathlib.Core.Logic.{◌⊎◌, ◌↔◌}
-use mathlib.Core.Bool.{false, true≢false}
-use lib.ListN.{length-set}
-use native.Mathlib.Omega.{arith}
 use Rattle.records.specs.declared.SiteNo.{SiteNo}
 use Rattle.records.specs.declared.MailNo.{MailNo}
 use Rattle.records.specs.declared.Message.{Message}
@@ -15,18 +10,18 @@ use Rattle.records.specs.declared.Lock.{Lock}
 use Rattle.records.specs.declared.Lock.TheVariants.{Unheld, ForMove, ForMail}
 use Rattle.records.specs.Numbers.{mail_no}
 use Rattle.records.proofs.ReaderLaws.{is-under-way}
-use Rattle.records.specs.Messages.{empty_message, is_under_way, standing}
+use Rattle.records.specs.Messages.{empty_message, is_under_way}
 use Rattle.rules.specs.declared.State.{State}
 use Rattle.rules.specs.Holding.{Shaped, IsMessage, message_at, status_of, lock_of, with_status, with_lock}
 use Rattle.rules.specs.Soundness.{LockRight}
 use Rattle.preservation.proofs.Shapes.{shaped-messages}
-use Rattle.preservation.proofs.AfterChange.{Seen, changed, kept, with_stand, seen-status}
+use Rattle.preservation.proofs.AfterChange.{Seen, changed, kept, in_status, seen-status}
 use Rattle.preservation.proofs.Locking.{Wants, lock-same, held-right, lock-right, lock-left, lock-taken, lock-freed}
 use Rattle.preservation.proofs.OneAgent.{Good}
 
 pub status-shaped : (t : State) (m : MailNo) (x : Status) → Shaped t → Shaped (with_status t m x)
 status-shaped t m x s =
-    shaped-messages t s t.messages _ _ _ _ _ refl refl refl refl (length-set t.status m.0 (standing x))
+    shaped-messages t s t.messages _ _ _ _ _ refl refl refl refl (length-set t.status m.0 x)
 
 -- the statuses that the lock is held for
 abbrev pub UnderWayIn : Status → Type 0
@@ -39,7 +34,7 @@ pub under-way-as : (x z : Status) → x ≡ z → UnderWayIn x ↔ UnderWayIn z
 under-way-as x z e = subst (λ (w : Status). UnderWayIn x ↔ UnderWayIn w) e Iff.rfl
 
 module _ (t : State) (g : Good t) (m : MailNo) (there : IsMessage t m) (x : Status) where
-  seen : (k : MailNo) → Seen k m (with_stand (message_at t m) x) (message_at t k) (message_at (with_status t m x) k)
+  seen : (k : MailNo) → Seen k m (in_status (message_at t m) x) (message_at t k) (message_at (with_status t m x) k)
   seen = seen-status t m x (omega (arith, g.0.status, g.1.counts.messages_fit))
 
   -- the status of every message now
@@ -47,7 +42,7 @@ module _ (t : State) (g : Good t) (m : MailNo) (there : IsMessage t m) (x : Stat
   status-now k = told (seen k)
     where
       told :
-          Seen k m (with_stand (message_at t m) x) (message_at t k) (message_at (with_status t m x) k)
+          Seen k m (in_status (message_at t m) x) (message_at t k) (message_at (with_status t m x) k)
           → Seen k m x (status_of t k) (status_of (with_status t m x) k)
       told (changed e r) = changed e (ap (λ (y : Message). y.status) r)
       told (kept n r) = kept n (ap (λ (y : Message). y.status) r)
@@ -56,7 +51,7 @@ module _ (t : State) (g : Good t) (m : MailNo) (there : IsMessage t m) (x : Stat
   room-kept i h = told (seen (mail_no i))
     where
       told :
-          Seen (mail_no i) m (with_stand (message_at t m) x) (message_at t (mail_no i)) (message_at (with_status t m x) (mail_no i))
+          Seen (mail_no i) m (in_status (message_at t m) x) (message_at t (mail_no i)) (message_at (with_status t m x) (mail_no i))
           → message_at (with_status t m x) (mail_no i) ≡ empty_message
       told (changed e r) = absurd (omega (arith, there, ap (λ (k : MailNo). k.0) e))
       told (kept n r) = r ∙ g.1.room.messages i h

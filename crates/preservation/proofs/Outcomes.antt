@@ -1,20 +1,13 @@
 -- What becomes of a step on any table: either the table is as it was, the code is not Done and the number is 0 or a message's, or the step went, from a table as its rule
 -- asks for to the next one that its rule gives.
-use Prim.Native.Nat.{ℕ, suc, ◌<◌, ◌≤◌}
-use mathlib.Core.Path.{◌≡◌, refl, ap}
-use mathlib.Core.Bool.{Bool, true, false, cond, ◌&&◌}
-use lib.Dec.{eqb, leb}
-use native.Mathlib.Omega.{arith}
-use borrow.Author.Tests.{ltb-true, eqb-true, eqb-false}
+use Rattle.std.proofs.Common.{Some, Option, None, ℕ, suc, ◌<◌, ◌≤◌, ◌≡◌, refl, ap, Bool, true, false, cond, ◌&&◌, eqb, leb, arith, ltb-true, eqb-true}
+use Rattle.std.proofs.lemmas.Bool.{eqb-false, and_parts}
 use Rattle.records.specs.declared.AgentNo.{AgentNo}
 use Rattle.records.specs.declared.SiteNo.{SiteNo}
 use Rattle.records.specs.declared.MailNo.{MailNo}
 use Rattle.records.specs.declared.Phase.TheVariants.{Free, Spawning, Born, Enrolled, Asking, Granted, Landed, Booked}
-use Rattle.records.specs.declared.Mapped.TheVariants.{At}
 use Rattle.records.specs.declared.Status.TheVariants.{Queued, Out, Handed, Closed, Lost}
 use Rattle.records.specs.declared.Lock.TheVariants.{Unheld, ForMove, ForMail}
-use Rattle.records.specs.declared.Found.{Found}
-use Rattle.records.specs.declared.Found.TheVariants.{Missing, There}
 use Rattle.records.specs.declared.Code.{Code}
 use Rattle.records.specs.declared.Code.TheVariants.{Done, Repeat, NoSite, NoAgent, NoMessage, Busy, NotUp, OutOfTurn, LockHeld, NotEnrolled, AgentsFull, MessagesFull, Changed, Gap, BadState}
 use Rattle.records.specs.Codes.{IsRefusal}
@@ -30,12 +23,10 @@ use Rattle.rules.specs.Holding.{IsAgent, IsSite, IsMessage, is_agent, agent_at, 
 use Rattle.rules.specs.SoundTest.{sound_test}
 use Rattle.rules.specs.Answers.{done, repeated, unless}
 use Rattle.rules.specs.Steps.{to_phase, sent_by, new_message, take_new, find_sent, same_letter, compare_sent, retry, addressee_of, rule_of, step_of}
-use Rattle.records.proofs.FlagLaws.{and_left, and_right}
 use Rattle.records.proofs.ReaderLaws.{mapped-is, unheld-is}
 use Rattle.rules.proofs.SentSearch.{last-below}
 use Rattle.preservation.proofs.Tested.{free-is, born-is, enrolled-is, asking-is, granted-is, landed-is, booked-is, up_is, queued-is, out-is, handed-is}
 use Rattle.preservation.proofs.Families.{ChildOf}
-use Rattle.preservation.proofs.Locking.{never}
 
 -- The steps that are Done: what held before, the number returned, and the next table.
 pub data Went (t : State) : Step → ℕ → State → Type 0 where
@@ -92,7 +83,7 @@ pub data Went (t : State) : Step → ℕ → State → Type 0 where
       → IsMessage t m
       → status_of t m ≡ Queued
       → lock_of t ≡ Unheld
-      → map_of t (addressee_of t m) ≡ At s
+      → map_of t (addressee_of t m) ≡ Some s
       → Went t (Forward m) 0 (with_lock (with_status t m (Out s)) (ForMail m))
   handed :
       (m : MailNo) (s : SiteNo)
@@ -124,70 +115,70 @@ tested t s false c r n f = stayed refl n (λ h. refl) (omega arith)
 spawn-outcome : (t : State) (a : AgentNo) → Outcome t (Spawn a) (rule_of t (Spawn a))
 unfolding rule_of
 spawn-outcome t a =
-    tested t (Spawn a) _ NoAgent _ (λ e. never (cc)) (λ here.
-    tested t (Spawn a) _ Busy _ (λ e. never (cc)) (λ free.
-    tested t (Spawn a) _ AgentsFull _ (λ e. never (cc)) (λ room.
+    tested t (Spawn a) _ NoAgent _ (λ e. cc) (λ here.
+    tested t (Spawn a) _ Busy _ (λ e. cc) (λ free.
+    tested t (Spawn a) _ AgentsFull _ (λ e. cc) (λ room.
     went refl (spawned a (ltb-true _ _ here) (free-is _ free) (ltb-true _ _ room)))))
 
 ask-outcome : (t : State) (a : AgentNo) (u : SiteNo) → Outcome t (Ask a u) (rule_of t (Ask a u))
 unfolding rule_of
 ask-outcome t a u =
-    tested t (Ask a u) _ NoAgent _ (λ e. never (cc)) (λ here.
-    tested t (Ask a u) _ NoSite _ (λ e. never (cc)) (λ site.
-    tested t (Ask a u) _ Busy _ (λ e. never (cc)) (λ free.
+    tested t (Ask a u) _ NoAgent _ (λ e. cc) (λ here.
+    tested t (Ask a u) _ NoSite _ (λ e. cc) (λ site.
+    tested t (Ask a u) _ Busy _ (λ e. cc) (λ free.
     went refl (asked a u (ltb-true _ _ here) (ltb-true _ _ site) (free-is _ free)))))
 
 enrol-outcome : (t : State) (b : AgentNo) → Outcome t (Enrol b) (rule_of t (Enrol b))
 unfolding rule_of
 enrol-outcome t b =
-    tested t (Enrol b) _ NoAgent _ (λ e. never (cc)) (λ here.
-    tested t (Enrol b) _ OutOfTurn _ (λ e. never (cc)) (λ born.
-    tested t (Enrol b) _ LockHeld _ (λ e. never (cc)) (λ free.
+    tested t (Enrol b) _ NoAgent _ (λ e. cc) (λ here.
+    tested t (Enrol b) _ OutOfTurn _ (λ e. cc) (λ born.
+    tested t (Enrol b) _ LockHeld _ (λ e. cc) (λ free.
     went refl (enrolled b _ (ltb-true _ _ here) (born-is _ born) (unheld-is _ free)))))
 
 greet-outcome : (t : State) (b : AgentNo) → Outcome t (Greet b) (rule_of t (Greet b))
 unfolding rule_of
 greet-outcome t b =
-    tested t (Greet b) _ NoAgent _ (λ e. never (cc)) (λ here.
-    tested t (Greet b) _ OutOfTurn _ (λ e. never (cc)) (λ turn.
+    tested t (Greet b) _ NoAgent _ (λ e. cc) (λ here.
+    tested t (Greet b) _ OutOfTurn _ (λ e. cc) (λ turn.
     went refl (greeted b _ (ltb-true _ _ here) (enrolled-is _ turn))))
 
 grant-outcome : (t : State) (a : AgentNo) → Outcome t (Grant a) (rule_of t (Grant a))
 unfolding rule_of
 grant-outcome t a =
-    tested t (Grant a) _ NoAgent _ (λ e. never (cc)) (λ here.
-    tested t (Grant a) _ OutOfTurn _ (λ e. never (cc)) (λ turn.
-    tested t (Grant a) _ LockHeld _ (λ e. never (cc)) (λ free.
+    tested t (Grant a) _ NoAgent _ (λ e. cc) (λ here.
+    tested t (Grant a) _ OutOfTurn _ (λ e. cc) (λ turn.
+    tested t (Grant a) _ LockHeld _ (λ e. cc) (λ free.
     went refl (granted a _ (ltb-true _ _ here) (asking-is _ turn) (unheld-is _ free)))))
 
 leap-outcome : (t : State) (a : AgentNo) → Outcome t (Leap a) (rule_of t (Leap a))
 unfolding rule_of
 leap-outcome t a =
-    tested t (Leap a) _ NoAgent _ (λ e. never (cc)) (λ here.
-    tested t (Leap a) _ OutOfTurn _ (λ e. never (cc)) (λ turn.
+    tested t (Leap a) _ NoAgent _ (λ e. cc) (λ here.
+    tested t (Leap a) _ OutOfTurn _ (λ e. cc) (λ turn.
     went refl (leapt a _ (ltb-true _ _ here) (granted-is _ turn))))
 
 book-outcome : (t : State) (a : AgentNo) → Outcome t (Book a) (rule_of t (Book a))
 unfolding rule_of
 book-outcome t a =
-    tested t (Book a) _ NoAgent _ (λ e. never (cc)) (λ here.
-    tested t (Book a) _ OutOfTurn _ (λ e. never (cc)) (λ turn.
+    tested t (Book a) _ NoAgent _ (λ e. cc) (λ here.
+    tested t (Book a) _ OutOfTurn _ (λ e. cc) (λ turn.
     went refl (booked a (ltb-true _ _ here) (landed-is _ turn))))
 
 settle-outcome : (t : State) (a : AgentNo) → Outcome t (Settle a) (rule_of t (Settle a))
 unfolding rule_of
 settle-outcome t a =
-    tested t (Settle a) _ NoAgent _ (λ e. never (cc)) (λ here.
-    tested t (Settle a) _ OutOfTurn _ (λ e. never (cc)) (λ turn.
+    tested t (Settle a) _ NoAgent _ (λ e. cc) (λ here.
+    tested t (Settle a) _ OutOfTurn _ (λ e. cc) (λ turn.
     went refl (settled a (ltb-true _ _ here) (booked-is _ turn))))
 
 forward-outcome : (t : State) (m : MailNo) → Outcome t (Forward m) (rule_of t (Forward m))
 unfolding rule_of
 forward-outcome t m =
-    tested t (Forward m) _ NoMessage _ (λ e. never (cc)) (λ here.
-    tested t (Forward m) _ OutOfTurn _ (λ e. never (cc)) (λ turn.
-    tested t (Forward m) _ LockHeld _ (λ e. never (cc)) (λ free.
-    tested t (Forward m) _ NotEnrolled _ (λ e. never (cc)) (λ known.
+    tested t (Forward m) _ NoMessage _ (λ e. cc) (λ here.
+    tested t (Forward m) _ OutOfTurn _ (λ e. cc) (λ turn.
+    tested t (Forward m) _ LockHeld _ (λ e. cc) (λ free.
+    tested t (Forward m) _ NotEnrolled _ (λ e. cc) (λ known.
     went refl (forwarded m _ (ltb-true _ _ here) (queued-is _ turn) (unheld-is _ free) (mapped-is _ known))))))
 
 -- the addressee is at the site travelled to, or it is not
@@ -204,23 +195,23 @@ met t m here out false e = went refl (lost m _ here out (λ q. eqb-false _ _ e (
 hand-outcome : (t : State) (m : MailNo) → Outcome t (Hand m) (rule_of t (Hand m))
 unfolding rule_of
 hand-outcome t m =
-    tested t (Hand m) _ NoMessage _ (λ e. never (cc)) (λ here.
-    tested t (Hand m) _ OutOfTurn _ (λ e. never (cc)) (λ turn.
+    tested t (Hand m) _ NoMessage _ (λ e. cc) (λ here.
+    tested t (Hand m) _ OutOfTurn _ (λ e. cc) (λ turn.
     met t m (ltb-true _ _ here) (out-is _ turn) _ refl))
 
 close-outcome : (t : State) (m : MailNo) → Outcome t (Close m) (rule_of t (Close m))
 unfolding rule_of
 close-outcome t m =
-    tested t (Close m) _ NoMessage _ (λ e. never (cc)) (λ here.
-    tested t (Close m) _ OutOfTurn _ (λ e. never (cc)) (λ turn.
+    tested t (Close m) _ NoMessage _ (λ e. cc) (λ here.
+    tested t (Close m) _ OutOfTurn _ (λ e. cc) (λ turn.
     went refl (closed m (ltb-true _ _ here) (handed-is _ turn))))
 
 -- a retry changes nothing, whatever it finds
-found : (t : State) (a : AgentNo) (n : ℕ) (b : AgentNo) (v : ℕ) (f : Found) → ((m : MailNo) → There m ≡ f → IsMessage t m) → Outcome t (Send a n b v) (compare_sent t b v f)
-found t a n b v Missing there = stayed refl (λ e. never (cc)) (λ h. refl) (omega arith)
-found t a n b v (There m) there =
-    tested t (Send a n b v) (same_letter (message_at t m) b v) Changed (repeated t m) (λ e. never (cc)) (λ same.
-    stayed refl (λ (e : Repeat ≡ Done). never (cc)) (λ (h : 10 ≤ 1). absurd (omega arith)) (omega (arith, there m refl)))
+found : (t : State) (a : AgentNo) (n : ℕ) (b : AgentNo) (v : ℕ) (f : Option MailNo) → ((m : MailNo) → Some m ≡ f → IsMessage t m) → Outcome t (Send a n b v) (compare_sent t b v f)
+found t a n b v None there = stayed refl (λ e. cc) (λ h. refl) (omega arith)
+found t a n b v (Some m) there =
+    tested t (Send a n b v) (same_letter (message_at t m) b v) Changed (repeated t m) (λ e. cc) (λ same.
+    stayed refl (λ (e : Repeat ≡ Done). cc) (λ (h : 10 ≤ 1). absurd (omega arith)) (omega (arith, there m refl)))
 
 numbered :
     (t : State) (a : AgentNo) (n : ℕ) (b : AgentNo) (v : ℕ)
@@ -232,25 +223,25 @@ numbered :
     → Outcome t (Send a n b v) (cond new (take_new t a n b v) (unless (leb 1 n && leb n (sent_by t a)) Gap t (retry t a n b v)))
 unfolding take_new retry
 numbered t a n b v from to up true e =
-    tested t (Send a n b v) _ MessagesFull _ (λ e. never (cc)) (λ room.
+    tested t (Send a n b v) _ MessagesFull _ (λ e. cc) (λ room.
     went refl (sent a n b v from to up (eqb-true _ _ e) (ltb-true _ _ room)))
 numbered t a n b v from to up false e =
-    tested t (Send a n b v) (leb 1 n && leb n (sent_by t a)) Gap _ (λ e. never (cc)) (λ old.
+    tested t (Send a n b v) (leb 1 n && leb n (sent_by t a)) Gap _ (λ e. cc) (λ old.
     found t a n b v (find_sent t a n) (last-below _ t.messages))
 
 send-outcome : (t : State) (a : AgentNo) (n : ℕ) (b : AgentNo) (v : ℕ) → Outcome t (Send a n b v) (rule_of t (Send a n b v))
 unfolding rule_of
 send-outcome t a n b v =
-    tested t (Send a n b v) (is_agent t a && is_agent t b) NoAgent _ (λ e. never (cc)) (λ here.
-    tested t (Send a n b v) _ NotUp _ (λ e. never (cc)) (λ up.
+    tested t (Send a n b v) (is_agent t a && is_agent t b) NoAgent _ (λ e. cc) (λ here.
+    tested t (Send a n b v) _ NotUp _ (λ e. cc) (λ up.
     numbered
     t
     a
     n
     b
     v
-    (ltb-true _ _ (and_left (is_agent t a) (is_agent t b) here))
-    (ltb-true _ _ (and_right (is_agent t a) (is_agent t b) here))
+    (ltb-true _ _ (and_parts _ _ here).0)
+    (ltb-true _ _ (and_parts _ _ here).1)
     (up_is _ up)
     _
     refl))
@@ -272,4 +263,4 @@ outcome t (Close m) = close-outcome t m
 -- the step itself asks first whether the table is sound
 pub step-outcome : (t : State) (s : Step) → Outcome t s (step_of t s)
 unfolding step_of
-step-outcome t s = tested t s (sound_test t) BadState (rule_of t s) (λ e. never (cc)) (λ sound. outcome t s)
+step-outcome t s = tested t s (sound_test t) BadState (rule_of t s) (λ e. cc) (λ sound. outcome t s)

@@ -1,10 +1,6 @@
 -- A refusal hands back the table it was given, with number 0; a repeat hands it back too; and no answer's number is above the table's
 -- counts.
-use Prim.Native.Nat.{ℕ, ◌+◌, ◌≤◌}
-use native.Mathlib.Omega.{arith}
-use mathlib.Core.Path.{◌≡◌, refl}
-use mathlib.Core.Bool.{Bool, true, false, ◌&&◌}
-use lib.Dec.{ltb, leb}
+use Rattle.std.proofs.Common.{ℕ, ◌+◌, ◌≤◌, arith, ◌≡◌, refl, Bool, true, false, ◌&&◌, ltb, leb}
 use Rattle.records.specs.declared.Code.TheVariants.{Done, Repeat, BadCount}
 use Rattle.records.specs.Codes.{IsRefusal}
 use Rattle.records.proofs.CodeLaws.{not-refused, not-repeated}

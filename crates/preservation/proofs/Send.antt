@@ -1,18 +1,14 @@
 -- send keeps a sound table sound: one message more, queued, with its sender's next number.
-use Prim.Native.Nat.{ℕ, suc, ◌<◌, ◌≤◌}
-use mathlib.Core.Path.{◌≡◌, ap, sym, ◌∙◌, subst}
-use mathlib.Core.Logic.{◌↔◌}
-use mathlib.Core.Bool.{false≢true}
-use lib.ListN.{length-set}
-use native.Mathlib.Decide.{ℕ_discrete}
-use native.Mathlib.Omega.{arith}
+use Rattle.std.proofs.Common.{ℕ, suc, ◌<◌, ◌≤◌, ◌≡◌, ap, sym, ◌∙◌, subst, ◌↔◌, length-set, arith}
+use Rattle.std.proofs.Math.Decide.{ℕ_discrete}
+use Rattle.std.proofs.lemmas.Bool.{false≢true}
 use Rattle.records.specs.declared.AgentNo.{AgentNo}
 use Rattle.records.specs.declared.SiteNo.{SiteNo}
 use Rattle.records.specs.declared.MailNo.{MailNo}
 use Rattle.records.specs.declared.Message.{Message}
 use Rattle.records.specs.declared.Status.TheVariants.{Queued, Out, Lost}
 use Rattle.records.specs.Numbers.{mail_no, same_agent}
-use Rattle.records.specs.Messages.{empty_message, is_under_way, is_delivered, standing}
+use Rattle.records.specs.Messages.{empty_message, is_under_way, is_delivered}
 use Rattle.rules.specs.declared.State.{State}
 use Rattle.records.specs.Limits.{most_messages}
 use Rattle.rules.specs.Holding.{IsAgent, IsMessage, phase_of, site_of, message_at, status_of, log_at, next_message, with_new_message}
@@ -23,7 +19,6 @@ use Rattle.records.proofs.ReaderLaws.{delivered-is, is-delivered}
 use Rattle.preservation.proofs.Shapes.{shaped-messages}
 use Rattle.preservation.proofs.AfterChange.{Seen, changed, kept, seen-message}
 use Rattle.preservation.proofs.Families.{ChildOf}
-use Rattle.preservation.proofs.Locking.{never}
 use Rattle.preservation.proofs.OneAgent.{Good}
 use Rattle.preservation.proofs.MailSteps.{mail_of, mail-sound}
 use Rattle.preservation.proofs.OneMessage.{not-under-way, under-way-as}
@@ -152,10 +147,10 @@ module _
           (length-set t.number t.messages n)
           (length-set t.addressee t.messages b)
           (length-set t.value t.messages v)
-          (length-set t.status t.messages (standing Queued)),
+          (length-set t.status t.messages Queued),
       mail-sound
           t
-          t.held
+          t.lock
           (mail_of after)
           g.1
           (record {
@@ -174,9 +169,9 @@ module _
             out =
                 every
                 (λ y. (s : SiteNo) → y.status ≡ Out s → s ≡ site_of t y.addressee)
-                (λ s k. absurd (never (cc)))
+                (λ s k. cc)
                 g.1.out;
-            lost = every (λ y. y.status ≡ Lost → ⊥) (λ k. never (cc)) g.1.lost;
+            lost = every (λ y. y.status ≡ Lost → ⊥) (λ k. cc) g.1.lost;
             parties =
                 record {
                   sender = every (λ y. IsAgent t y.sender) from g.1.parties.sender;

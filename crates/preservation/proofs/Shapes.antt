@@ -1,15 +1,12 @@
 -- The arrays keep their lengths: one law for each of the four ways in which a table is made anew.
-use Prim.Native.Nat.{ℕ}
-use mathlib.Core.Path.{◌≡◌, ◌∙◌}
-use mathlib.Core.List.{List}
-use lib.ListN.{length}
+use Rattle.std.proofs.Common.{ℕ, ◌≡◌, ◌∙◌, List, length}
+use Rattle.records.specs.declared.Lock.{Lock}
+use Rattle.records.specs.declared.Status.{Status}
 use Rattle.records.specs.declared.AgentNo.{AgentNo}
 use Rattle.records.specs.declared.MailNo.{MailNo}
 use Rattle.records.specs.declared.Agent.{Agent}
-use Rattle.records.specs.declared.Stand.{Stand}
-use Rattle.records.specs.declared.Held.{Held}
 use Rattle.rules.specs.declared.State.{State}
-use Rattle.rules.specs.Holding.{Shaped, with_agents, with_held, with_messages, with_log}
+use Rattle.rules.specs.Holding.{Shaped, with_agents, with_lock, with_messages, with_log}
 
 module _ (t : State) (s : Shaped t) where
   pub shaped-agents : (n : ℕ) (agent : List Agent) → length agent ≡ length t.agent → Shaped (with_agents t n agent)
@@ -24,8 +21,8 @@ module _ (t : State) (s : Shaped t) where
         log = s.log;
       }
 
-  pub shaped-held : (h : Held) → Shaped (with_held t h)
-  shaped-held h =
+  pub shaped-lock : (h : Lock) → Shaped (with_lock t h)
+  shaped-lock h =
       record {
         agent = s.agent;
         sender = s.sender;
@@ -37,7 +34,7 @@ module _ (t : State) (s : Shaped t) where
       }
 
   pub shaped-messages :
-      (n : ℕ) (sender : List AgentNo) (number : List ℕ) (addressee : List AgentNo) (value : List ℕ) (status : List Stand)
+      (n : ℕ) (sender : List AgentNo) (number : List ℕ) (addressee : List AgentNo) (value : List ℕ) (status : List Status)
       → length sender ≡ length t.sender
       → length number ≡ length t.number
       → length addressee ≡ length t.addressee

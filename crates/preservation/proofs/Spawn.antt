@@ -1,10 +1,6 @@
 -- spawn keeps a sound table sound: the parent names the new child, the child the parent, at one site; any other agent is as it was.
-use Prim.Native.Nat.{ℕ, suc, ◌<◌, ◌≤◌}
-use mathlib.Core.Path.{◌≡◌, refl, ap, sym, ◌∙◌}
-use mathlib.Core.Logic.{◌⊎◌, inl, inr, ◌↔◌}
-use native.Mathlib.Decide.{ℕ_discrete}
-use native.Mathlib.Omega.{arith}
-use lib.ListN.{length-set}
+use Rattle.std.proofs.Common.{ℕ, suc, ◌<◌, ◌≤◌, ◌≡◌, refl, ap, sym, ◌∙◌, ◌⊎◌, inl, inr, ◌↔◌, arith, length-set}
+use Rattle.std.proofs.Math.Decide.{ℕ_discrete}
 use Rattle.records.specs.declared.AgentNo.{AgentNo}
 use Rattle.records.specs.declared.Agent.{Agent}
 use Rattle.records.specs.declared.Phase.TheVariants.{Free, Spawning, Born}
@@ -18,7 +14,6 @@ use Rattle.rules.specs.Steps.{to_phase}
 use Rattle.preservation.proofs.AfterChange.{SeenTwo, first, second, neither, seen-two}
 use Rattle.preservation.proofs.Families.{ChildOf}
 use Rattle.preservation.proofs.AgentSteps.{MovingIn, not-moving, Alone, alone, alone-mapped, moving-as, moves-same, agents-sound}
-use Rattle.preservation.proofs.Locking.{never}
 use Rattle.preservation.proofs.Shapes.{shaped-agents}
 use Rattle.preservation.proofs.OneAgent.{Good, agent-place, agents-shaped}
 
@@ -66,18 +61,18 @@ module _ (t : State) (g : Good t) (a : AgentNo) (there : IsAgent t a) (e : phase
       (agent_at t a)
       (Spawning new)
       (alone t g.1 a there)
-      (g.1.map a there (λ q k. never (cc)) (λ k. never (cc)))
-      (λ q f. never (cc))
-      (λ u f. absurd (never (cc)))
-      (λ u f. absurd (never (cc)))
+      (g.1.map a there (λ q k. cc) (λ k. cc))
+      (λ q f. cc)
+      (λ u f. cc)
+      (λ u f. cc)
 
   child-alone : Alone t.sites (born_of a (site_of t a))
   child-alone =
       record {
         own = g.1.sites.own a there;
-        asked = λ u k. absurd (never (cc));
-        granted = λ u k. absurd (never (cc));
-        mapped = λ s k. absurd (never (cc));
+        asked = λ u k. cc;
+        granted = λ u k. cc;
+        mapped = λ s k. cc;
         born = (λ k. (a, refl), λ k. refl);
         map = λ n l. absurd (n a refl);
       }
@@ -135,8 +130,8 @@ module _ (t : State) (g : Good t) (a : AgentNo) (there : IsAgent t a) (e : phase
   old-child p c k h = told (now c) k
     where
       told : Now c → Child t p c → Child after p c
-      told (first q r) (inl x) = absurd (never (cc))
-      told (first q r) (inr x) = absurd (never (cc))
+      told (first q r) (inl x) = cc
+      told (first q r) (inr x) = cc
       told (second q r) k = absurd (not_new c h q)
       told (neither n m r) (inl x) = inl (cc)
       told (neither n m r) (inr x) = inr (cc)
@@ -145,10 +140,10 @@ module _ (t : State) (g : Good t) (a : AgentNo) (there : IsAgent t a) (e : phase
   was-child p c k = told (now c) k
     where
       told : Now c → ChildOf (phase_of after c) p → Child t p c ⊎ ((c ≡ new) × (p ≡ a))
-      told (first q r) (inl x) = absurd (never (cc))
-      told (first q r) (inr x) = absurd (never (cc))
+      told (first q r) (inl x) = cc
+      told (first q r) (inr x) = cc
       told (second q r) (inl x) = inr (q, cc)
-      told (second q r) (inr x) = absurd (never (cc))
+      told (second q r) (inr x) = cc
       told (neither n m r) (inl x) = inl (inl (cc))
       told (neither n m r) (inr x) = inl (inr (cc))
 
@@ -156,7 +151,7 @@ module _ (t : State) (g : Good t) (a : AgentNo) (there : IsAgent t a) (e : phase
   old-spawning p c k h = told (now p)
     where
       told : Now p → phase_of after p ≡ Spawning c
-      told (first q r) = absurd (never (cc))
+      told (first q r) = cc
       told (second q r) = absurd (not_new p h q)
       told (neither n m r) = cc
 
@@ -165,7 +160,7 @@ module _ (t : State) (g : Good t) (a : AgentNo) (there : IsAgent t a) (e : phase
     where
       told : Now p → (IsAgent t p × (phase_of t p ≡ Spawning c)) ⊎ ((p ≡ a) × (c ≡ new))
       told (first q r) = inr (q, cc)
-      told (second q r) = absurd (never (cc))
+      told (second q r) = cc
       told (neither n m r) = inl (was-there p h m, cc)
 
   parent-now : phase_of after a ≡ Spawning new
@@ -204,10 +199,10 @@ module _ (t : State) (g : Good t) (a : AgentNo) (there : IsAgent t a) (e : phase
   no-child : (p c : AgentNo) → Child t p c → c ≡ new → ⊥
   no-child p c (inl x) q =
       let empty : agent_at t new ≡ empty_agent = g.1.room.agents t.agents (omega arith) in
-      never (cc)
+      cc
   no-child p c (inr x) q =
       let empty : agent_at t new ≡ empty_agent = g.1.room.agents t.agents (omega arith) in
-      never (cc)
+      cc
 
   parent-there :
       (p c : AgentNo)
@@ -239,7 +234,7 @@ module _ (t : State) (g : Good t) (a : AgentNo) (there : IsAgent t a) (e : phase
         t
         (suc t.agents)
         after.agent
-        t.held
+        t.lock
         g.1
         (record {
           grows = omega arith;

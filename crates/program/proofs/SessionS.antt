@@ -1,8 +1,6 @@
 -- Session S as the program sees it: its bytes give the printed text, byte for byte.
-use Prim.Native.Nat.{ℕ}
+use Rattle.std.proofs.Common.{ℕ, List, [], ◌∷◌, ◌++◌, ◌≡◌, refl}
 use Prim.Native.String.{String}
-use mathlib.Core.List.{List, [], ◌∷◌, ◌++◌}
-use mathlib.Core.Path.{◌≡◌, refl}
 use Rattle.text.specs.Decimal.{bytes}
 use Rattle.program.specs.Program.{output_of}
 

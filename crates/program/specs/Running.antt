@@ -1,11 +1,11 @@
 -- A run of a script into a lent buffer. Assumes nothing.
-use Rattle.std.specs.Prelude.{ℕ, suc, ◌+◌, ◌≡◌, cond, List, [], ◌∷◌, ◌++◌, length, take, drop, leb}
+use Rattle.std.specs.Prelude.{ℕ, suc, ◌+◌, ◌≡◌, cond, Option, Some, None, List, [], ◌∷◌, ◌++◌, length, take, drop, leb}
 use Rattle.std.proofs.lemmas.List.Edits.{sets}
 use Rattle.rules.specs.declared.State.{State}
+use Rattle.table.specs.declared.Table.{Table}
 use Rattle.text.specs.Decimal.{bytes}
 use Rattle.text.specs.Placing.{place_after}
 use Rattle.text.specs.Writing.{write_of}
-use Rattle.program.specs.declared.Desk.{Desk}
 use Rattle.grammar.specs.Grammar.{line_of}
 use Rattle.grammar.specs.Lines.{lines_of}
 use Rattle.program.specs.Program.{no_desk, take_line, answer_line, turn_line, most_input}
@@ -42,12 +42,13 @@ table_behind r t =
     r
 
 -- the end of a run: the written table, or state=none if never opened
-unfoldable pub run_end : Progress → Desk → Progress
+unfoldable pub run_end : Progress → Option Table → Progress
 unfolding table_behind
-run_end r d = cond d.opened (table_behind r d.table.state) (behind r (bytes "state=none\n"))
+run_end r None = behind r (bytes "state=none\n")
+run_end r (Some t) = table_behind r t.state
 
 -- an answer for each line, counted from k, and then the end
-unfoldable pub run_lines : Progress → Desk → ℕ → List (List ℕ) → Progress
+unfoldable pub run_lines : Progress → Option Table → ℕ → List (List ℕ) → Progress
 unfolding take_line answer_line run_end line_of
 run_lines r d k [] = run_end r d
 run_lines r d k (l ∷ ls) =

@@ -8,17 +8,10 @@ use table::Table;
 // A script has at most so many bytes.
 pub const MOST_INPUT: usize = 65536;
 
-// What a script has come to: whether an opening was Done, and the table, which is the one that stands for none until then.
-#[derive(Clone, Copy)]
-pub struct Desk {
-    pub opened: bool,
-    pub table: Table,
-}
-
-// What one line answers, and what the script has then come to.
+// What one line answers, and what the script has then come to: its table, once an opening was Done. `take_line` answers this record.
 #[derive(Clone, Copy)]
 pub struct Turn {
-    pub desk: Desk,
+    pub desk: Option<Table>,
     pub code: Code,
     pub number: u32,
 }

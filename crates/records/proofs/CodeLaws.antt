@@ -1,9 +1,5 @@
 -- What holds of every code by its number: all laws that go through the codes one by one stand here.
-use Prim.Native.Nat.{ℕ, ◌≤◌}
-use native.Mathlib.Omega.{arith}
-use mathlib.Core.Path.{◌≡◌, refl, ap, sym, ◌∙◌}
-use mathlib.Core.Bool.{false}
-use lib.Dec.{eqb}
+use Rattle.std.proofs.Common.{◌≤◌, arith, ◌≡◌, refl, ap, false, eqb}
 use Rattle.records.specs.declared.Code.{Code}
 use Rattle.records.specs.declared.Code.TheVariants.{Done, Repeat, NoSite, NoAgent, NoMessage, Busy, NotUp, OutOfTurn, LockHeld, NotEnrolled, AgentsFull, MessagesFull, Changed, Gap, BadCount, NoRoom, BadLine, NotOpen, AlreadyOpen, BadState}
 use Rattle.records.specs.Codes.{code_number, IsRefusal}
@@ -59,4 +55,4 @@ pub not-refused : (c : Code) → c ≡ Done → IsRefusal c → ⊥
 not-refused c e h = let z : code_number c ≡ 0 = ap code_number e in omega (arith, h)
 
 pub not-repeated : (c : Code) → c ≡ Done → c ≡ Repeat → ⊥
-not-repeated c e f = let z : ◌≡◌ {A = ℕ} 0 1 = ap code_number (sym e ∙ f) in omega arith
+not-repeated c e f = let z : code_number c ≡ 0 = ap code_number e in omega (arith, ap code_number f)

@@ -1,54 +1,68 @@
--- How the test of a list, or of the places below a number, goes on by one place: what the loops' invariants rest on.
-use Prim.Native.Nat.{ℕ, suc, ◌+◌, ◌≤◌, ◌<◌}
-use mathlib.Core.Bool.{Bool, false, ◌&&◌, and_assoc, and-true}
-use mathlib.Core.List.{List}
-use mathlib.Core.Path.{◌≡◌, sym, ◌∙◌}
+-- What loops and iterators make of the test of a list, or of the places below a number.
+use Prim.Native.Nat.{ℕ, zero, suc, ◌+◌, ◌≤◌, ◌<◌}
+use mathlib.Core.Bool.{Bool, true, false, ◌&&◌, and_assoc, and_comm, and-true}
+use mathlib.Core.List.{List, [], ◌∷◌}
+use mathlib.Core.Path.{◌≡◌, refl, sym, ap, ◌∙◌}
+use denote.Param.Members.{Mut}
+use Rattle.std.specs.Fn.{Called}
+use Rattle.std.specs.Iterator.{YieldsThen}
+use Rattle.std.specs.List.{fold, list_all, range_with_len, FoldsTo}
+use Rattle.std.specs.Option.{MatchOption}
+use Rattle.std.proofs.Common.{Option}
+use Rattle.std.specs.declared.ops.Range.{Range}
+use Rattle.std.proofs.iter.Yields.{nat_range_steps}
+use Rattle.std.proofs.lemmas.Iterator.{YieldsList-from_range}
+use Rattle.std.proofs.lemmas.Iterator.Search.{all_from_yields_List}
 use native.Mathlib.Numerals.{add-one}
 use native.Mathlib.Omega.{arith}
-use lib.ListN.{length, get_or, drop, drop_of_length-le}
-use lib.Seq.{drop-cons}
+use native.Mathlib.Decide.{ℕ_discrete}
 use Rattle.records.specs.Places.{all_of, all_below}
-use Rattle.records.proofs.FlagLaws.{by-test}
-use Rattle.records.proofs.PlaceLaws.{below_each}
-
--- the flag of a loop over a list's room takes in one more element
-pub room-on {ℓ} :
-    {A : Type ℓ} (f : A → Bool) (l : List A) (d : A) (n i : ℕ) (fine next : Bool)
-    → all_of f (drop n l) ≡ (fine && all_of f (drop i l))
-    → next ≡ (fine && f (get_or l i d))
-    → i < length l
-    → all_of f (drop n l) ≡ (next && all_of f (drop (i + 1) l))
-unfolding all_of
-room-on f l d n i fine next so step more =
-    so ∙ rw (step, add-one, drop-cons l i d) (sym (and_assoc fine (f (get_or l i d)) (all_of f (drop (suc i) l))))
-
--- at the end of the list the flag is the whole answer
-pub room-end {ℓ} :
-    {A : Type ℓ} (f : A → Bool) (l : List A) (n i : ℕ) (fine : Bool)
-    → all_of f (drop n l) ≡ (fine && all_of f (drop i l))
-    → length l ≤ i
-    → fine ≡ all_of f (drop n l)
-unfolding all_of
-room-end f l n i fine so over = sym (so ∙ rw (drop_of_length-le l over) (and-true fine))
 
 -- the flag of a loop over places takes in one more place
-pub below_on :
-    (f : ℕ → Bool) (i : ℕ) (fine found next : Bool)
-    → fine ≡ all_below i f
-    → found ≡ f i
-    → next ≡ (found && fine)
-    → next ≡ all_below (i + 1) f
+pub below_on : (f : ℕ → Bool) (i : ℕ) (fine : Bool) → fine ≡ all_below i f → (fine && f i) ≡ all_below (i + 1) f
 unfolding all_below
-below_on f i fine found next so this step = rw (step, this, so, add-one)
+below_on f i fine so = rw (so, add-one) (and_comm (all_below i f) (f i))
 
--- where the places are used up the flag is the whole answer
-pub below_end : (f : ℕ → Bool) (n i : ℕ) (fine : Bool) → (i ≤ n) × (fine ≡ all_below i f) → n ≤ i → fine ≡ all_below n f
-below_end f n i fine so over = let same : i ≡ n = omega arith in rw same at so.1
+-- a fold that goes through a whole list is the test of all of it
+pub fold-all : {A : Type 0} (f : A → Bool) (fine : Bool) (l : List A) → fold (λ a x. a && f x) fine l ≡ (fine && all_of f l)
+unfolding all_of
+fold-all f fine [] = sym (and-true fine)
+fold-all f fine (x ∷ l) = fold-all f (fine && f x) l ∙ and_assoc fine (f x) (all_of f l)
 
--- one place that fails is enough
-pub below-off : (f : ℕ → Bool) (n i : ℕ) → i < n → f i ≡ false → false ≡ all_below n f
-below-off f n i h off = by-test (all_below n f) (λ all. sym off ∙ (below_each n f all i h ∙ sym all)) (λ none. sym none)
+-- the test of the numbers from a on, with one number more at the end
+range-more : (f : ℕ → Bool) (a n : ℕ) → list_all f (range_with_len a (suc n)) ≡ (list_all f (range_with_len a n) && f (a + n))
+range-more f a zero = grind arith
+range-more f a (suc n) = grind (arith, range-more f (a + 1) n)
 
--- a first part that fails is enough
-pub fails-first : {a : Bool} (b : Bool) → false ≡ a → false ≡ (a && b)
-fails-first {a} b e = rw (sym e)
+-- the test of the numbers below n is that of the places below n
+pub range-all : (n : ℕ) (f : ℕ → Bool) → list_all f (range_with_len 0 n) ≡ all_below n f
+unfolding all_below
+range-all zero f = refl
+range-all (suc n) f = grind (arith, range-more f 0 n, range-all n f)
+
+-- what std's `all` answers over the numbers below n, where each call answers as the test does
+pub all-below :
+    {F : Type 0} {g : Mut F (ℕ × Unit {0}) Bool} (test : ℕ → Bool) (n : ℕ) (u : Range ℕ) (f : F) (r : Bool)
+    → (xs : List ℕ)
+    × (o : Option ℕ)
+    × (j : F)
+    × YieldsThen nat_range_steps (record { start = 0; end = n }) xs o u
+    × FoldsTo (λ p x q. Called g p (x, tt) true q) f xs j
+    × MatchOption o (r ≡ true) (λ x. (r ≡ false) × ((h : F) × Called g j (x, tt) false h))
+    → ((x : ℕ) (b : Bool) (q : F) → Called g f (x, tt) b q → (q ≡ f) × (b ≡ test x))
+    → r ≡ all_below n test
+all-below test n u f r ran acts =
+    all_from_yields_List test u f r ran (YieldsList-from_range 0 n n refl (omega arith)) acts ∙ range-all n test
+
+-- a test that passes at each place from n up to k is the same below both
+pub below-past : (f : ℕ → Bool) (n k : ℕ) → ((i : ℕ) → n ≤ i → i < k → f i ≡ true) → n ≤ k → all_below k f ≡ all_below n f
+unfolding all_below
+below-past f zero zero past more = refl
+below-past f (suc n) zero past more = absurd (omega arith)
+below-past f n (suc k) past more =
+    elim (ℕ_discrete n (suc k)) [
+      | yes e ↦ ap (λ (j : ℕ). all_below j f) (sym e)
+      | no e ↦
+          ap (λ b. b && all_below k f) (past k (omega arith) (omega arith))
+          ∙ below-past f n k (λ i le lt. past i le (omega arith)) (omega arith)
+    ]

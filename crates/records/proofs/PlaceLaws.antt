@@ -1,40 +1,32 @@
 -- What `all_of`, `all_below`, `count_below` and `last_below` say place by place.
-use Prim.Native.Nat.{ℕ, zero, suc, ◌+◌, ◌-◌, ◌≤◌, ◌<◌}
-use native.Mathlib.Nat.{not-suc-le-zero, le_of_suc-le-suc, le_trans, le_of_eq}
-use native.Mathlib.Decide.{ℕ_discrete, dec_lt}
-use native.Mathlib.Omega.{arith}
-use mathlib.Core.Path.{◌≡◌, refl, sym, ap, ap₂, ◌∙◌, subst}
-use mathlib.Core.Logic.{⊎_elim}
-use mathlib.Core.Bool.{Bool, true, false, cond, false≢true}
-use mathlib.Core.List.{List, [], ◌∷◌}
-use lib.ListN.{get_or, drop}
+use Rattle.std.proofs.Common.{Some, ℕ, zero, suc, ◌+◌, ◌-◌, ◌≤◌, ◌<◌, not-suc-le-zero, le_of_suc-le-suc, le_trans, le_of_eq, arith, ◌≡◌, refl, sym, ap, ap₂, ◌∙◌, subst, ⊎_elim, Bool, true, false, cond, List, [], ◌∷◌, get_or, drop}
+use Rattle.std.proofs.Math.Decide.{ℕ_discrete, dec_lt}
+use Rattle.std.proofs.lemmas.Bool.{false≢true, and_parts, and_from, cases_Bool}
 use Rattle.records.specs.declared.MailNo.{MailNo}
-use Rattle.records.specs.declared.Found.TheVariants.{There}
 use Rattle.records.specs.Numbers.{mail_no}
 use Rattle.records.specs.Places.{all_of, all_below, count_below, last_below}
-use Rattle.records.proofs.FlagLaws.{and_left, and_right, and_both, not-cases}
 
 pub below_each : (n : ℕ) (f : ℕ → Bool) → all_below n f ≡ true → (i : ℕ) → i < n → f i ≡ true
 unfolding all_below
 below_each zero f h i lt = absurd (not-suc-le-zero lt)
 below_each (suc n) f h i lt =
     elim (ℕ_discrete i n) [
-      | yes e ↦ subst (λ (j : ℕ). f j ≡ true) (sym e) (and_left (f n) (all_below n f) h)
-      | no e ↦ below_each n f (and_right (f n) (all_below n f) h) i (omega arith)
+      | yes e ↦ subst (λ (j : ℕ). f j ≡ true) (sym e) (and_parts _ _ h).0
+      | no e ↦ below_each n f (and_parts _ _ h).1 i (omega arith)
     ]
 
 pub each_below : (n : ℕ) (f : ℕ → Bool) → ((i : ℕ) → i < n → f i ≡ true) → all_below n f ≡ true
 unfolding all_below
 each_below zero f h = refl
-each_below (suc n) f h = and_both (h n (omega arith)) (each_below n f (λ i lt. h i (omega arith)))
+each_below (suc n) f h = and_from _ _ (h n (omega arith)) (each_below n f (λ i lt. h i (omega arith)))
 
 -- the room past n: what holds of each element of the rest holds of each place from n on
 module _ {ℓ} {A : Type ℓ} (f : A → Bool) (d : A) (empty : f d ≡ true) where
   rest-each : (l : List A) → all_of f l ≡ true → (i : ℕ) → f (get_or l i d) ≡ true
   unfolding all_of
   rest-each [] h i = empty
-  rest-each (x ∷ xs) h zero = and_left (f x) (all_of f xs) h
-  rest-each (x ∷ xs) h (suc i) = rest-each xs (and_right (f x) (all_of f xs) h) i
+  rest-each (x ∷ xs) h zero = (and_parts _ _ h).0
+  rest-each (x ∷ xs) h (suc i) = rest-each xs (and_parts _ _ h).1 i
 
   pub room-each : (l : List A) (n : ℕ) → all_of f (drop n l) ≡ true → (i : ℕ) → n ≤ i → f (get_or l i d) ≡ true
   unfolding all_of
@@ -46,7 +38,7 @@ module _ {ℓ} {A : Type ℓ} (f : A → Bool) (d : A) (empty : f d ≡ true) wh
   each-rest : (l : List A) → ((i : ℕ) → f (get_or l i d) ≡ true) → all_of f l ≡ true
   unfolding all_of
   each-rest [] h = refl
-  each-rest (x ∷ xs) h = and_both (h zero) (each-rest xs (λ i. h (suc i)))
+  each-rest (x ∷ xs) h = and_from _ _ (h zero) (each-rest xs (λ i. h (suc i)))
 
   pub each-room : (l : List A) (n : ℕ) → ((i : ℕ) → n ≤ i → f (get_or l i d) ≡ true) → all_of f (drop n l) ≡ true
   unfolding all_of
@@ -69,7 +61,7 @@ count-step n f =
     ⊎_elim
     (λ h. omega (arith, count-hit n f h))
     (λ h. omega (arith, count-miss n f h))
-    (not-cases (f n))
+    (cases_Bool (f n))
 
 -- the count only grows, and is at least 1 where the test passes somewhere
 pub count-grows : (n k : ℕ) (f : ℕ → Bool) → count_below n f ≤ count_below (n + k) f
@@ -94,7 +86,7 @@ some-count (suc n) f h =
     (λ (miss : f n ≡ false).
     let r = some-count n f (omega (arith, count-miss n f miss)) in
     (r.0, omega (arith, r.1), r.2))
-    (not-cases (f n))
+    (cases_Bool (f n))
 
 -- tests that agree below n count alike
 pub count-alike : (n : ℕ) (f g : ℕ → Bool) → ((i : ℕ) → i < n → f i ≡ g i) → count_below n f ≡ count_below n g
@@ -119,7 +111,7 @@ nth-place (suc most) f n h =
     (λ (miss : f most ≡ false).
     let r = nth-place most f n (omega (arith, count-miss most f miss)) in
     (r.0, omega (arith, r.1), r.2, r.3))
-    (not-cases (f most))
+    (cases_Bool (f most))
 
 pub later-counts : (f : ℕ → Bool) (i j : ℕ) → f i ≡ true → i < j → count_below i f < count_below j f
 later-counts f i j h lt =
@@ -142,16 +134,16 @@ same_place f i j hi hj e =
     ]
 
 -- a search finds a message that passes, where there is one
-pub last-there : (n : ℕ) (f : MailNo → Bool) (i : ℕ) → i < n → f (mail_no i) ≡ true → (m : MailNo) × (last_below n f ≡ There m) × (m.0 < n) × (f m ≡ true)
+pub last-there : (n : ℕ) (f : MailNo → Bool) (i : ℕ) → i < n → f (mail_no i) ≡ true → (m : MailNo) × (last_below n f ≡ Some m) × (m.0 < n) × (f m ≡ true)
 unfolding last_below
 last-there zero f i lt h = absurd (not-suc-le-zero lt)
 last-there (suc n) f i lt h =
     ⊎_elim
-    (λ (hit : f (mail_no n) ≡ true). (mail_no n, ap (λ b. cond b (There (mail_no n)) (last_below n f)) hit, omega arith, hit))
+    (λ (hit : f (mail_no n) ≡ true). (mail_no n, ap (λ b. cond b (Some (mail_no n)) (last_below n f)) hit, omega arith, hit))
     (λ (miss : f (mail_no n) ≡ false).
     let r = last-there n f i (before miss) h in
-    (r.0, ap (λ b. cond b (There (mail_no n)) (last_below n f)) miss ∙ r.1, omega (arith, r.2), r.3))
-    (not-cases (f (mail_no n)))
+    (r.0, ap (λ b. cond b (Some (mail_no n)) (last_below n f)) miss ∙ r.1, omega (arith, r.2), r.3))
+    (cases_Bool (f (mail_no n)))
   where
     before : f (mail_no n) ≡ false → i < n
     before miss =

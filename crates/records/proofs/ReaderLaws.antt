@@ -1,27 +1,20 @@
 -- What each reader says of a phase, a map entry, a status or a lock.
-use Prim.Native.Nat.{ℕ, zero, suc}
-use mathlib.Core.Path.{◌≡◌, refl, sym, ap, ◌∙◌}
-use mathlib.Core.Logic.{◌⊎◌, inl, inr, ⊎_elim}
-use mathlib.Core.Bool.{true, false, not, ◌&&◌, false≢true}
-use lib.Dec.{eqb}
-use borrow.Author.Tests.{eqb-true, eq-eqb, not-true}
+use Rattle.std.proofs.Common.{Option, Some, None, ℕ, zero, suc, ◌≡◌, refl, sym, ap, ◌∙◌, ◌⊎◌, inl, inr, ⊎_elim, true, false, eqb, eqb-true, eq-eqb}
+use Rattle.std.proofs.lemmas.Bool.{false≢true, not-true, and_parts, or_cases, or_left, or_right}
 use Rattle.records.specs.declared.AgentNo.{AgentNo}
 use Rattle.records.specs.declared.SiteNo.{SiteNo}
 use Rattle.records.specs.declared.MailNo.{MailNo}
 use Rattle.records.specs.declared.Phase.{Phase}
 use Rattle.records.specs.declared.Phase.TheVariants.{Free, Spawning, Born, Enrolled, Asking, Granted, Landed, Booked}
-use Rattle.records.specs.declared.Mapped.{Mapped}
-use Rattle.records.specs.declared.Mapped.TheVariants.{Nowhere, At}
 use Rattle.records.specs.declared.Agent.{Agent}
 use Rattle.records.specs.declared.Status.{Status}
 use Rattle.records.specs.declared.Status.TheVariants.{Queued, Out, Handed, Closed, Lost}
 use Rattle.records.specs.declared.Lock.{Lock}
 use Rattle.records.specs.declared.Lock.TheVariants.{Unheld, ForMove, ForMail}
 use Rattle.records.specs.Numbers.{agent_no, site_no, mail_no, same_agent, same_site, same_mail}
-use Rattle.records.specs.Agents.{phase_kind, is_free, is_born, is_enrolled, is_granted, is_landed, is_child, is_moving, peer_of, target_of, is_mapped, map_site, empty_agent, is_empty_agent}
+use Rattle.records.specs.Agents.{phase_kind, is_born, is_enrolled, is_granted, is_landed, is_child, is_moving, peer_of, target_of, is_mapped, map_site, empty_agent, is_empty_agent}
 use Rattle.records.specs.Messages.{status_kind, is_out, is_handed, is_closed, is_under_way, is_delivered, travels_to}
 use Rattle.records.specs.Locks.{is_unheld, held_for_move, held_for_mail}
-use Rattle.records.proofs.FlagLaws.{and_left, and_right, or_cases, or_left, or_right}
 
 -- numbers of one kind that compare equal are the same
 pub same-agent : (a b : AgentNo) → same_agent a b ≡ true → a ≡ b
@@ -74,40 +67,32 @@ child-is p h =
 
 pub is-child : (p : Phase) (a : AgentNo) → (p ≡ Born a) ⊎ (p ≡ Enrolled a) → (is_child p ≡ true) × (peer_of p ≡ a)
 is-child p a =
-    ⊎_elim (λ e. (or_left (is_enrolled p) (ap is_born e), ap peer_of e)) (λ e. (or_right (is_born p) (ap is_enrolled e), ap peer_of e))
+    ⊎_elim (λ e. (or_left _ _ (ap is_born e), ap peer_of e)) (λ e. (or_right _ _ (ap is_enrolled e), ap peer_of e))
 
 pub moving-is : (p : Phase) → is_moving p ≡ true → ((u : SiteNo) × (p ≡ Granted u)) ⊎ (p ≡ Landed)
 moving-is p h =
     ⊎_elim (λ k. inl (target_of p, phase-is 5 p k)) (λ k. inr (phase-is 6 p k)) (or_cases (is_granted p) (is_landed p) h)
 
 pub is-moving : (p : Phase) → ((u : SiteNo) × (p ≡ Granted u)) ⊎ (p ≡ Landed) → is_moving p ≡ true
-is-moving p = ⊎_elim (λ e. or_left (is_landed p) (ap is_granted e.1)) (λ e. or_right (is_granted p) (ap is_landed e))
+is-moving p = ⊎_elim (λ e. or_left _ _ (ap is_granted e.1)) (λ e. or_right _ _ (ap is_landed e))
 
-pub mapped-is : (m : Mapped) → is_mapped m ≡ true → m ≡ At (map_site m)
-mapped-is Nowhere h = absurd (false≢true h)
-mapped-is (At s) h = refl
+pub mapped-is : (m : Option SiteNo) → is_mapped m ≡ true → m ≡ Some (map_site m)
+mapped-is None h = absurd (false≢true h)
+mapped-is (Some s) h = refl
 
-pub unmapped-is : (m : Mapped) → is_mapped m ≡ false → m ≡ Nowhere
-unmapped-is Nowhere h = refl
-unmapped-is (At s) h = absurd (false≢true (sym h))
+pub unmapped-is : (m : Option SiteNo) → is_mapped m ≡ false → m ≡ None
+unmapped-is None h = refl
+unmapped-is (Some s) h = absurd (false≢true (sym h))
 
 -- the one empty filling
 pub empty-agent-is : (x : Agent) → is_empty_agent x ≡ true → x ≡ empty_agent
 empty-agent-is x h =
+    let site = and_parts _ _ h in
+    let phase = and_parts _ _ site.1 in
+    let at_zero = eqb-true x.site.0 0 site.0 in
+    let free = phase-is 0 x.phase phase.0 in
+    let unmapped = unmapped-is x.map (not-true _ phase.1) in
     λ i. record { site = site_no (at_zero i); phase = free i; map = unmapped i }
-  where
-    at_zero : x.site.0 ≡ 0
-    at_zero = eqb-true x.site.0 0 (and_left (eqb x.site.0 0) (is_free x.phase && not (is_mapped x.map)) h)
-
-    rest : (is_free x.phase && not (is_mapped x.map)) ≡ true
-    rest = and_right (eqb x.site.0 0) (is_free x.phase && not (is_mapped x.map)) h
-
-    free : x.phase ≡ Free
-    free = phase-is 0 x.phase (and_left (is_free x.phase) (not (is_mapped x.map)) rest)
-
-    unmapped : x.map ≡ Nowhere
-    unmapped =
-        unmapped-is x.map (not-true (is_mapped x.map) (and_right (is_free x.phase) (not (is_mapped x.map)) rest))
 
 -- a status is made of its kind and the site that it names
 abbrev pub status_from : ℕ → SiteNo → Status
@@ -132,14 +117,14 @@ under-way-is x h =
     ⊎_elim (λ k. inl (travels_to x, status-is 1 x k)) (λ k. inr (status-is 2 x k)) (or_cases (is_out x) (is_handed x) h)
 
 pub is-under-way : (x : Status) → ((s : SiteNo) × (x ≡ Out s)) ⊎ (x ≡ Handed) → is_under_way x ≡ true
-is-under-way x = ⊎_elim (λ e. or_left (is_handed x) (ap is_out e.1)) (λ e. or_right (is_out x) (ap is_handed e))
+is-under-way x = ⊎_elim (λ e. or_left _ _ (ap is_out e.1)) (λ e. or_right _ _ (ap is_handed e))
 
 pub delivered-is : (x : Status) → is_delivered x ≡ true → (x ≡ Handed) ⊎ (x ≡ Closed)
 delivered-is x h =
     ⊎_elim (λ k. inl (status-is 2 x k)) (λ k. inr (status-is 3 x k)) (or_cases (is_handed x) (is_closed x) h)
 
 pub is-delivered : (x : Status) → (x ≡ Handed) ⊎ (x ≡ Closed) → is_delivered x ≡ true
-is-delivered x = ⊎_elim (λ e. or_left (is_closed x) (ap is_handed e)) (λ e. or_right (is_handed x) (ap is_closed e))
+is-delivered x = ⊎_elim (λ e. or_left _ _ (ap is_handed e)) (λ e. or_right _ _ (ap is_closed e))
 
 -- the lock is free, or held for what it names
 pub unheld-is : (l : Lock) → is_unheld l ≡ true → l ≡ Unheld

@@ -1,11 +1,9 @@
 -- What the rules ask of an agent's record, and the one place for each kind of change to it. Assumes nothing.
-use Rattle.std.specs.Prelude.{ℕ, Bool, true, false, not, ◌&&◌, ◌||◌, eqb}
+use Rattle.std.specs.Prelude.{ℕ, Bool, true, false, not, ◌&&◌, ◌||◌, eqb, Option, Some, None}
 use Rattle.records.specs.declared.AgentNo.{AgentNo}
 use Rattle.records.specs.declared.SiteNo.{SiteNo}
 use Rattle.records.specs.declared.Phase.{Phase}
 use Rattle.records.specs.declared.Phase.TheVariants.{Free, Spawning, Born, Enrolled, Asking, Granted, Landed, Booked}
-use Rattle.records.specs.declared.Mapped.{Mapped}
-use Rattle.records.specs.declared.Mapped.TheVariants.{Nowhere, At}
 use Rattle.records.specs.declared.Agent.{Agent}
 use Rattle.records.specs.Numbers.{agent_no, site_no}
 
@@ -74,24 +72,24 @@ target_of (Granted u) = u
 target_of Landed = site_no 0
 target_of Booked = site_no 0
 
-abbrev pub is_mapped : Mapped → Bool
-is_mapped Nowhere = false
-is_mapped (At s) = true
+abbrev pub is_mapped : Option SiteNo → Bool
+is_mapped None = false
+is_mapped (Some s) = true
 
-abbrev pub map_site : Mapped → SiteNo
-map_site Nowhere = site_no 0
-map_site (At s) = s
+abbrev pub map_site : Option SiteNo → SiteNo
+map_site None = site_no 0
+map_site (Some s) = s
 
 -- the empty filling of the room for agents
 abbrev pub empty_agent : Agent
-empty_agent = record { site = site_no 0; phase = Free; map = Nowhere }
+empty_agent = record { site = site_no 0; phase = Free; map = None }
 
 abbrev pub is_empty_agent : Agent → Bool
 is_empty_agent x = eqb x.site.0 0 && (is_free x.phase && not (is_mapped x.map))
 
 -- an agent as it is born: at its parent's site, unmapped
 abbrev pub born_of : AgentNo → SiteNo → Agent
-born_of p s = record { site = s; phase = Born p; map = Nowhere }
+born_of p s = record { site = s; phase = Born p; map = None }
 
 -- the same agent in another phase
 abbrev pub with_phase : Agent → Phase → Agent
@@ -103,4 +101,4 @@ moved_to x s = record { site = s; phase = x.phase; map = x.map }
 
 -- the same agent, with the site it stands at as its map entry
 abbrev pub mapped_here : Agent → Agent
-mapped_here x = record { site = x.site; phase = x.phase; map = At x.site }
+mapped_here x = record { site = x.site; phase = x.phase; map = Some x.site }

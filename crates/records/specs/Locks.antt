@@ -4,7 +4,6 @@ use Rattle.records.specs.declared.AgentNo.{AgentNo}
 use Rattle.records.specs.declared.MailNo.{MailNo}
 use Rattle.records.specs.declared.Lock.{Lock}
 use Rattle.records.specs.declared.Lock.TheVariants.{Unheld, ForMove, ForMail}
-use Rattle.records.specs.declared.Held.{Held}
 use Rattle.records.specs.Numbers.{same_agent, same_mail}
 
 abbrev pub is_unheld : Lock → Bool
@@ -21,6 +20,3 @@ abbrev pub held_for_mail : Lock → MailNo → Bool
 held_for_mail Unheld m = false
 held_for_mail (ForMove a) m = false
 held_for_mail (ForMail n) m = same_mail n m
-
-abbrev pub holding : Lock → Held
-holding l = record { lock = l }

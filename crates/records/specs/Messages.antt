@@ -4,7 +4,6 @@ use Rattle.records.specs.declared.SiteNo.{SiteNo}
 use Rattle.records.specs.declared.MailNo.{MailNo}
 use Rattle.records.specs.declared.Status.{Status}
 use Rattle.records.specs.declared.Status.TheVariants.{Queued, Out, Handed, Closed, Lost}
-use Rattle.records.specs.declared.Stand.{Stand}
 use Rattle.records.specs.declared.Message.{Message}
 use Rattle.records.specs.declared.Item.{Item}
 use Rattle.records.specs.Numbers.{agent_no, site_no, mail_no}
@@ -47,9 +46,6 @@ travels_to (Out s) = s
 travels_to Handed = site_no 0
 travels_to Closed = site_no 0
 travels_to Lost = site_no 0
-
-abbrev pub standing : Status → Stand
-standing s = record { status = s }
 
 -- the empty filling of the room for messages, and of the room for the log
 abbrev pub empty_message : Message

@@ -1,8 +1,6 @@
 -- Questions about every element of a list, and about every place below a number. Assumes nothing.
-use Rattle.std.specs.Prelude.{ℕ, zero, suc, Bool, true, cond, not, ◌&&◌, ◌||◌, List, [], ◌∷◌}
+use Rattle.std.specs.Prelude.{ℕ, zero, suc, Bool, true, cond, not, ◌&&◌, ◌||◌, List, [], ◌∷◌, Option, Some, None}
 use Rattle.records.specs.declared.MailNo.{MailNo}
-use Rattle.records.specs.declared.Found.{Found}
-use Rattle.records.specs.declared.Found.TheVariants.{Missing, There}
 use Rattle.records.specs.Numbers.{mail_no}
 
 -- the test passes at each element
@@ -21,9 +19,9 @@ count_below zero f = zero
 count_below (suc n) f = cond (f n) (suc (count_below n f)) (count_below n f)
 
 -- the highest message below n that passes the test
-unfoldable pub last_below : ℕ → (MailNo → Bool) → Found
-last_below zero f = Missing
-last_below (suc n) f = cond (f (mail_no n)) (There (mail_no n)) (last_below n f)
+unfoldable pub last_below : ℕ → (MailNo → Bool) → Option MailNo
+last_below zero f = None
+last_below (suc n) f = cond (f (mail_no n)) (Some (mail_no n)) (last_below n f)
 
 -- the second test passes where the first does
 abbrev pub implies : Bool → Bool → Bool

@@ -4,25 +4,24 @@
 
 pub mod agents;
 pub mod codes;
-pub mod flags;
 pub mod limits;
-pub mod locks;
 pub mod messages;
+pub mod places;
 
 // Agents are numbered from 0 in the order of their creation.
-#[derive(Clone, Copy)]
+#[derive(Clone, Copy, PartialEq, Eq)]
 pub struct AgentNo(pub u32);
 
 // Sites are numbered from 0.
-#[derive(Clone, Copy)]
+#[derive(Clone, Copy, PartialEq, Eq)]
 pub struct SiteNo(pub u32);
 
 // Messages are numbered from 0 in the order in which they were taken.
-#[derive(Clone, Copy)]
+#[derive(Clone, Copy, PartialEq, Eq)]
 pub struct MailNo(pub u32);
 
 // Where an agent is in a creation or a move.
-#[derive(Clone, Copy)]
+#[derive(Clone, Copy, PartialEq, Eq)]
 pub enum Phase {
     Free,
     // with the child
@@ -39,22 +38,16 @@ pub enum Phase {
     Booked,
 }
 
-// The server's map entry for one agent.
-#[derive(Clone, Copy)]
-pub enum Mapped {
-    Nowhere,
-    At(SiteNo),
-}
-
-#[derive(Clone, Copy)]
+#[derive(Clone, Copy, PartialEq, Eq)]
 pub struct Agent {
     pub site: SiteNo,
     pub phase: Phase,
-    pub map: Mapped,
+    // the server's map entry, if it has one
+    pub map: Option<SiteNo>,
 }
 
 // How far a message has come.
-#[derive(Clone, Copy)]
+#[derive(Clone, Copy, PartialEq, Eq)]
 pub enum Status {
     Queued,
     // with the site it travels to
@@ -65,7 +58,7 @@ pub enum Status {
 }
 
 // One message, to look at. The table keeps the five fields in five arrays.
-#[derive(Clone, Copy)]
+#[derive(Clone, Copy, PartialEq, Eq)]
 pub struct Message {
     pub sender: AgentNo,
     pub number: u32,
@@ -74,42 +67,24 @@ pub struct Message {
     pub status: Status,
 }
 
-// The message that a search came upon, if any.
-#[derive(Clone, Copy)]
-pub enum Found {
-    Missing,
-    There(MailNo),
-}
-
-// A status in a struct of its own, since an array of enums is no field that the prover walks.
-#[derive(Clone, Copy)]
-pub struct Stand {
-    pub status: Status,
-}
-
-#[derive(Clone, Copy)]
+// Whether the lock is held, and for what. It is no Option of a holder, since both are asked in one match.
+#[derive(Clone, Copy, PartialEq, Eq)]
 pub enum Lock {
     Unheld,
     ForMove(AgentNo),
     ForMail(MailNo),
 }
 
-// The lock in a struct of its own, since a field that is an enum cannot be stored to.
-#[derive(Clone, Copy)]
-pub struct Held {
-    pub lock: Lock,
-}
-
 // One entry of an agent's inbox.
-#[derive(Clone, Copy)]
+#[derive(Clone, Copy, PartialEq, Eq)]
 pub struct Item {
     pub sender: AgentNo,
     pub number: u32,
     pub value: u32,
 }
 
-// What a step, an opening, a writing or a script line answers.
-#[derive(Clone, Copy)]
+// What a step, an opening, a writing or a script line answers. Done and Repeat stand among the refusals, as in the one table of codes.
+#[derive(Clone, Copy, PartialEq, Eq)]
 pub enum Code {
     Done,
     Repeat,

@@ -1,14 +1,9 @@
 -- The tests of the senders' numbers and of the log, and the clauses that they stand for.
-use Prim.Native.Nat.{ℕ, zero, suc, ◌≤◌, ◌<◌}
-use native.Mathlib.Omega.{arith}
-use mathlib.Core.Path.{◌≡◌, refl, sym, ap, ◌∙◌}
-use mathlib.Core.Logic.{⊎_elim}
-use mathlib.Core.Bool.{Bool, true, false, false≢true}
-use borrow.Author.Tests.{eq-eqb}
+use Rattle.std.proofs.Common.{ℕ, zero, suc, ◌≤◌, ◌<◌, arith, ◌≡◌, refl, sym, ap, ◌∙◌, ⊎_elim, Bool, true, false, eq-eqb}
+use Rattle.std.proofs.lemmas.Bool.{false≢true, cases_Bool}
 use Rattle.records.specs.declared.MailNo.{MailNo}
 use Rattle.records.specs.Numbers.{mail_no, same_mail}
 use Rattle.records.specs.Messages.{is_delivered}
-use Rattle.records.proofs.FlagLaws.{not-cases}
 use Rattle.records.proofs.PlaceLaws.{count-some, some-count}
 use Rattle.records.proofs.ReaderLaws.{same-mail, delivered-is, is-delivered}
 use Rattle.rules.specs.Tests.{numbers_run, log_runs, no_counts, no_marks}
@@ -81,4 +76,4 @@ module _ (t : State) (messages_fit : t.messages ≤ most_messages) where
       ⊎_elim
       (λ d. ap bit d ∙ sym (r.once (mail_no m) lt (delivered-is (status_of t (mail_no m)) d)))
       (λ d. ap bit d ∙ sym (not-logged r (mail_no m) d))
-      (not-cases (is_delivered (status_of t (mail_no m)))))
+      (cases_Bool (is_delivered (status_of t (mail_no m)))))

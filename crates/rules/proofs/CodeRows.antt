@@ -1,19 +1,11 @@
 -- A step's table of codes, row by row: each code exactly where its condition holds and no row above it does.
-use Prim.Native.Nat.{ℕ, ◌≤◌}
-use native.Mathlib.Decide.{dec_le}
-use native.Mathlib.Omega.{arith}
-use mathlib.Core.Path.{◌≡◌, refl, sym, ap, ◌∙◌}
-use mathlib.Core.Logic.{◌⊎◌, inl, inr, ⊎_elim}
-use mathlib.Core.Bool.{Bool, true, false, not, ◌&&◌, false≢true}
-use mathlib.Core.List.{List, [], ◌∷◌}
-use lib.Dec.{ltb}
-use borrow.Author.Tests.{ltb-true, lt-ltb}
+use Rattle.std.proofs.Common.{Option, None, ℕ, ◌≤◌, arith, ◌≡◌, refl, sym, ap, ◌∙◌, ◌⊎◌, inl, inr, ⊎_elim, Bool, true, false, not, ◌&&◌, List, [], ◌∷◌, ltb, ltb-true, lt-ltb, le-ltb}
+use Rattle.std.proofs.Math.Decide.{dec_le}
+use Rattle.std.proofs.lemmas.Bool.{true_from_ne_false, false≢true, and_parts, and_from, cases_Bool, false_from_ne_true, not_from_false, both_ways, not-true}
 use Rattle.records.specs.declared.AgentNo.{AgentNo}
 use Rattle.records.specs.declared.SiteNo.{SiteNo}
 use Rattle.records.specs.declared.Phase.{Phase}
 use Rattle.records.specs.declared.Phase.TheVariants.{Free, Born, Enrolled, Asking, Granted, Landed, Booked}
-use Rattle.records.specs.declared.Mapped.{Mapped}
-use Rattle.records.specs.declared.Mapped.TheVariants.{Nowhere}
 use Rattle.records.specs.declared.Status.{Status}
 use Rattle.records.specs.declared.Status.TheVariants.{Queued, Out, Handed}
 use Rattle.records.specs.declared.Lock.{Lock}
@@ -22,7 +14,6 @@ use Rattle.records.specs.declared.Code.{Code}
 use Rattle.records.specs.Agents.{is_free, is_born, is_enrolled, is_asking, is_granted, is_landed, is_booked, is_child, is_mapped, peer_of, target_of}
 use Rattle.records.specs.Messages.{is_queued, is_out, is_handed, travels_to}
 use Rattle.records.specs.Locks.{is_unheld}
-use Rattle.records.proofs.FlagLaws.{false-not, not-cases, not-passes, not-fails, and_left, and_right, and_both}
 use Rattle.records.proofs.ReaderLaws.{phase-is, status-is, unmapped-is, child-is, is-child, unheld-is}
 use Rattle.rules.specs.declared.State.{State}
 use Rattle.rules.specs.declared.Reply.{Reply}
@@ -49,8 +40,8 @@ pub record Refutes (P : Type 0) (b : Bool) : Type 0 where
 pub refutes : {P : Type 0} (b : Bool) → (P → b ≡ true → ⊥) → ((b ≡ true → ⊥) → P) → Refutes P b
 refutes b f g =
     record {
-      fails = λ p. false-not b (f p);
-      passes = λ n. ⊎_elim (λ h. h) (λ h. absurd (n (g (λ k. false≢true (sym h ∙ k))))) (not-cases b);
+      fails = λ p. false_from_ne_true b (f p);
+      passes = λ n. true_from_ne_false b (λ h. n (g (both_ways b h)));
     }
 
 -- a check of a rule: its test, its code, and the condition that fails it
@@ -87,18 +78,17 @@ unsound t = refutes (sound_test t) (λ n h. n (sound-from t h)) (λ f s. f (soun
 
 -- a number is not below a count
 pub absent : (n x : ℕ) → Refutes (n ≤ x) (ltb x n)
-absent n x =
-    refutes (ltb x n) (λ le h. omega (arith, ltb-true x n h)) (λ f. elim (dec_le n x) [ yes h ↦ h | no h ↦ absurd (f (lt-ltb x n (omega arith))) ])
+absent n x = record { fails = le-ltb x n; passes = λ f. lt-ltb x n (omega arith) }
 
 pub one-absent : (n x y : ℕ) → Refutes ((n ≤ x) ⊎ (n ≤ y)) (ltb x n && ltb y n)
 one-absent n x y =
     refutes
     (ltb x n && ltb y n)
-    (λ e h. ⊎_elim (λ le. omega (arith, ltb-true x n (and_left (ltb x n) (ltb y n) h))) (λ le. omega (arith, ltb-true y n (and_right (ltb x n) (ltb y n) h))) e)
+    (λ e h. ⊎_elim (λ le. omega (arith, ltb-true x n (and_parts _ _ h).0)) (λ le. omega (arith, ltb-true y n (and_parts _ _ h).1)) e)
     (λ f.
     elim (dec_le n x) [
       | yes h ↦ inl h
-      | no h ↦ elim (dec_le n y) [ yes k ↦ inr k | no k ↦ absurd (f (and_both (lt-ltb x n (omega arith)) (lt-ltb y n (omega arith)))) ]
+      | no h ↦ elim (dec_le n y) [ yes k ↦ inr k | no k ↦ absurd (f (and_from _ _ (lt-ltb x n (omega arith)) (lt-ltb y n (omega arith)))) ]
     ])
 
 -- a phase or a status that is not the one
@@ -127,12 +117,12 @@ pub a-child : (t : State) (a : AgentNo) → Refutes ((p : AgentNo) × Child t p 
 a-child t a =
     refutes
     (not (is_child (phase_of t a)))
-    (λ c h. not-fails (is_child (phase_of t a)) h (is-child (phase_of t a) c.0 c.1).0)
+    (λ c h. both_ways _ (not-true _ h) (is-child (phase_of t a) c.0 c.1).0)
     (λ f.
     ⊎_elim
     (λ k. (peer_of (phase_of t a), child-is (phase_of t a) k))
-    (λ k. absurd (f (not-passes k)))
-    (not-cases (is_child (phase_of t a))))
+    (λ k. absurd (f (not_from_false _ k)))
+    (cases_Bool (is_child (phase_of t a))))
 
 pub not-queued : (s : Status) → Refutes (s ≡ Queued → ⊥) (is_queued s)
 not-queued s = refutes (is_queued s) (λ n h. n (status-is 0 s h)) (λ f e. f (ap is_queued e))
@@ -147,6 +137,6 @@ not-handed s = refutes (is_handed s) (λ n h. n (status-is 2 s h)) (λ f e. f (a
 pub lock-held : (l : Lock) → Refutes (l ≡ Unheld → ⊥) (is_unheld l)
 lock-held l = refutes (is_unheld l) (λ n h. n (unheld-is l h)) (λ f e. f (ap is_unheld e))
 
-pub not-mapped : (m : Mapped) → Refutes (m ≡ Nowhere) (is_mapped m)
+pub not-mapped : (m : Option SiteNo) → Refutes (m ≡ None) (is_mapped m)
 not-mapped m =
-    refutes (is_mapped m) (λ e h. false≢true (sym (ap is_mapped e) ∙ h)) (λ f. unmapped-is m (false-not (is_mapped m) f))
+    refutes (is_mapped m) (λ e h. false≢true (sym (ap is_mapped e) ∙ h)) (λ f. unmapped-is m (false_from_ne_true (is_mapped m) f))

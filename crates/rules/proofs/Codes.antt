@@ -1,13 +1,9 @@
 -- Each step's codes, exactly when document 01 says: one table a step, its rows in document 01's order. (send has a file of its own.)
-use Prim.Native.Nat.{◌≤◌}
-use mathlib.Core.Path.{◌≡◌, refl}
-use mathlib.Core.Bool.{Bool, true, false, cond}
-use mathlib.Core.List.{[], ◌∷◌}
+use Rattle.std.proofs.Common.{None, ◌≤◌, ◌≡◌, refl, Bool, true, false, cond, [], ◌∷◌}
 use Rattle.records.specs.declared.AgentNo.{AgentNo}
 use Rattle.records.specs.declared.SiteNo.{SiteNo}
 use Rattle.records.specs.declared.MailNo.{MailNo}
 use Rattle.records.specs.declared.Phase.TheVariants.{Free, Born, Enrolled, Asking, Granted, Landed, Booked}
-use Rattle.records.specs.declared.Mapped.TheVariants.{Nowhere}
 use Rattle.records.specs.declared.Status.TheVariants.{Queued, Out, Handed, Lost}
 use Rattle.records.specs.declared.Lock.TheVariants.{Unheld}
 use Rattle.records.specs.declared.Code.TheVariants.{Done, NoSite, NoAgent, NoMessage, Busy, OutOfTurn, LockHeld, NotEnrolled, AgentsFull, BadState}
@@ -180,7 +176,7 @@ pub forward-codes :
     else NoMessage when (t.messages ≤ m.0)
     else OutOfTurn when (status_of t m ≡ Queued → ⊥)
     else LockHeld when (lock_of t ≡ Unheld → ⊥)
-    else NotEnrolled when (map_of t (addressee_of t m) ≡ Nowhere)
+    else NotEnrolled when (map_of t (addressee_of t m) ≡ None)
     else says Done)
     (step_of t (Forward m))
 unfolding step_of

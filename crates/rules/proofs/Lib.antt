@@ -1,5 +1,4 @@
 pub mod Limits
-pub mod PlacesRead
 pub mod TestRuns
 pub mod NumberLaws
 pub mod LogLaws
@@ -16,11 +15,7 @@ pub mod Retry
 pub mod SendCodes
 pub mod Openings
 pub mod Slips
-pub mod RefusalLaws
-pub mod MovesDone
-pub mod CreationsDone
-pub mod DeliveriesDone
 pub mod SentSearch
-pub mod SendingDone
 pub mod Stepping
 pub mod InboxSearch
+pub mod Done

@@ -1,8 +1,7 @@
 -- The test of one message and what it says.
-use mathlib.Core.Path.{◌≡◌, sym, ap, ◌∙◌}
-use mathlib.Core.Logic.{◌↔◌}
-use mathlib.Core.Bool.{Bool, true, not, beq}
-use borrow.Author.Tests.{ltb-true, lt-ltb}
+use Rattle.std.proofs.Common.{◌≡◌, sym, ap, ◌∙◌, ◌↔◌, Bool, true, not, ltb-true, lt-ltb, arith}
+use Rattle.std.proofs.Math.Bool.{beq}
+use Rattle.std.proofs.lemmas.Bool.{and_from, false_from_ne_true, not_from_false, both_ways, not-true}
 use Rattle.records.specs.declared.AgentNo.{AgentNo}
 use Rattle.records.specs.declared.SiteNo.{SiteNo}
 use Rattle.records.specs.declared.MailNo.{MailNo}
@@ -13,7 +12,7 @@ use Rattle.records.specs.Agents.{is_child, peer_of}
 use Rattle.records.specs.Messages.{is_out, is_lost, is_under_way, travels_to}
 use Rattle.records.specs.Locks.{held_for_mail}
 use Rattle.records.specs.Places.{implies}
-use Rattle.records.proofs.FlagLaws.{and_left, and_right, and_both, false-not, not-passes, not-fails, implies-use, implies-make, same-there, same_back, same-make}
+use Rattle.records.proofs.FlagLaws.{implies-use, implies-make, same-there, same_back, same-make}
 use Rattle.records.proofs.ReaderLaws.{same-site, site-same, child-is, is-child, status-is, under-way-is, is-under-way, held-mail-is, is-held-mail}
 use Rattle.rules.specs.Tests.{message_fine}
 use Rattle.rules.specs.declared.State.{State}
@@ -40,11 +39,11 @@ module _ (t : State) (m : MailNo) where
   unfolding message_fine
   message-from h =
       record {
-        sender = ltb-true (message_at t m).sender.0 t.agents (search (and_left, and_right));
-        addressee = ltb-true (message_at t m).addressee.0 t.agents (search (and_left, and_right));
-        sender_up = λ p c. not-fails (is_child (phase_of t (message_at t m).sender)) up (is-child (phase_of t (message_at t m).sender) p c).0;
+        sender = ltb-true (message_at t m).sender.0 t.agents (grind arith);
+        addressee = ltb-true (message_at t m).addressee.0 t.agents (grind arith);
+        sender_up = λ p c. both_ways _ (not-true _ up) (is-child (phase_of t (message_at t m).sender) p c).0;
         out = λ s e. sym (ap travels_to e) ∙ same-site (travels_to (status_of t m)) (site_of t (message_at t m).addressee) (implies-use (is_out (status_of t m)) arrives travels (ap is_out e));
-        lost = λ e. not-fails (is_lost (status_of t m)) kept (ap is_lost e);
+        lost = λ e. both_ways _ (not-true _ kept) (ap is_lost e);
         lock = (
           λ e. under-way-is (status_of t m) (same-there (held_for_mail (lock_of t) m) (is_under_way (status_of t m)) locks (is-held-mail (lock_of t) m e)),
           λ u. held-mail-is (lock_of t) m (same_back (held_for_mail (lock_of t) m) (is_under_way (status_of t m)) locks (is-under-way (status_of t m) u)),
@@ -52,38 +51,38 @@ module _ (t : State) (m : MailNo) where
       }
     where
       up : not (is_child (phase_of t (message_at t m).sender)) ≡ true
-      up = search (and_left, and_right)
+      up = grind arith
 
       travels : implies (is_out (status_of t m)) arrives ≡ true
-      travels = search (and_left, and_right)
+      travels = grind arith
 
       kept : not (is_lost (status_of t m)) ≡ true
-      kept = search (and_left, and_right)
+      kept = grind arith
 
       locks : lock_test ≡ true
-      locks = search (and_left, and_right)
+      locks = grind arith
 
   pub message-to : MessageRight t m → message_fine t.agents (lock_of t) t.agent t.sender t.addressee t.status m.0 ≡ true
   unfolding message_fine
   message-to r =
-      and_both
-      (and_both
+      and_from _ _
+      (and_from _ _
       (lt-ltb (message_at t m).sender.0 t.agents r.sender)
-      (and_both
+      (and_from _ _
       (lt-ltb (message_at t m).addressee.0 t.agents r.addressee)
-      (not-passes
-      (false-not
+      (not_from_false _
+      (false_from_ne_true
       (is_child (phase_of t (message_at t m).sender))
       (λ c. r.sender_up (peer_of (phase_of t (message_at t m).sender)) (child-is (phase_of t (message_at t m).sender) c))))))
-      (and_both
+      (and_from _ _
       (implies-make
       (is_out (status_of t m))
       arrives
       (λ k. site-same (travels_to (status_of t m)) (site_of t (message_at t m).addressee) (r.out (travels_to (status_of t m)) (status-is 1 (status_of t m) k))))
-      (and_both
+      (and_from _ _
       (same-make
       (held_for_mail (lock_of t) m)
       (is_under_way (status_of t m))
       (λ k. is-under-way (status_of t m) (r.lock.0 (held-mail-is (lock_of t) m k)))
       (λ k. is-held-mail (lock_of t) m (r.lock.1 (under-way-is (status_of t m) k))))
-      (not-passes (false-not (is_lost (status_of t m)) (λ k. r.lost (status-is 4 (status_of t m) k))))))
+      (not_from_false _ (false_from_ne_true (is_lost (status_of t m)) (λ k. r.lost (status-is 4 (status_of t m) k))))))

@@ -1,13 +1,7 @@
 -- Opening gives a sound table exactly for 1 to 16 sites, and the table that stands for none is not sound.
-use Prim.Native.Nat.{ℕ, ◌≤◌}
-use native.Mathlib.Omega.{arith}
-use lib.Dec.{ltb, leb}
-use mathlib.Core.Path.{◌≡◌, sym, subst}
-use mathlib.Core.Logic.{◌↔◌, ⊎_elim}
-use mathlib.Core.Bool.{Bool, true, false, ◌&&◌}
-use borrow.Author.Tests.{leb-true, le-leb, ltb-true}
+use Rattle.std.proofs.Common.{ℕ, ◌≤◌, arith, ltb, leb, ◌≡◌, sym, subst, ◌↔◌, ⊎_elim, Bool, true, false, ◌&&◌, leb-true, le-leb, ltb-true}
+use Rattle.std.proofs.lemmas.Bool.{and_parts, and_from, cases_Bool}
 use Rattle.records.specs.declared.Code.TheVariants.{BadCount}
-use Rattle.records.proofs.FlagLaws.{and_left, and_right, and_both, not-cases}
 use Rattle.records.specs.Limits.{most_sites}
 use Rattle.rules.specs.Holding.{no_state}
 use Rattle.rules.specs.Answers.{done, unless}
@@ -32,13 +26,13 @@ opening-sound n = (
   λ s.
       ⊎_elim
       (λ (h : (ltb 0 n && leb n most_sites) ≡ true).
-      (ltb-true 0 n (and_left (ltb 0 n) (leb n most_sites) h), leb-true n most_sites (and_right (ltb 0 n) (leb n most_sites) h)))
+      (ltb-true 0 n (and_parts _ _ h).0, leb-true n most_sites (and_parts _ _ h).1))
       (λ (h : (ltb 0 n && leb n most_sites) ≡ false).
       absurd (none-unsound (subst (λ (b : Bool). Sound (unless b BadCount no_state (done (opened n) 0)).state) h s)))
-      (not-cases (ltb 0 n && leb n most_sites)),
+      (cases_Bool (ltb 0 n && leb n most_sites)),
   λ r.
       subst
       (λ (b : Bool). Sound (unless b BadCount no_state (done (opened n) 0)).state)
-      (sym (and_both (le-leb 1 n r.0) (le-leb n most_sites r.1)))
+      (sym (and_from _ _ (le-leb 1 n r.0) (le-leb n most_sites r.1)))
       (opened-sound n r.0 r.1),
 )

@@ -1,17 +1,10 @@
 -- In a sound table a sender's number names one message, and a search for it finds that one, whatever its status.
-use Prim.Native.Nat.{ℕ, zero, suc, ◌≤◌}
-use native.Mathlib.Nat.{not-suc-le-zero}
-use native.Mathlib.Omega.{arith}
-use mathlib.Core.Path.{◌≡◌, sym, ap, ◌∙◌}
-use mathlib.Core.Bool.{Bool, ◌&&◌}
-use lib.Dec.{eqb}
-use borrow.Author.Tests.{eqb-true, eq-eqb}
+use Rattle.std.proofs.Common.{Some, ℕ, zero, suc, ◌≤◌, not-suc-le-zero, arith, ◌≡◌, sym, ap, ◌∙◌, Bool, ◌&&◌, eqb, eqb-true, eq-eqb}
+use Rattle.std.proofs.lemmas.Bool.{and_parts, and_from}
 use Rattle.records.specs.declared.AgentNo.{AgentNo}
 use Rattle.records.specs.declared.MailNo.{MailNo}
-use Rattle.records.specs.declared.Found.TheVariants.{There}
 use Rattle.records.specs.Numbers.{mail_no, same_agent}
 use Rattle.records.specs.Places.{count_below}
-use Rattle.records.proofs.FlagLaws.{and_left, and_right, and_both}
 use Rattle.records.proofs.PlaceLaws.{nth-place, same_place, last-there}
 use Rattle.records.proofs.ReaderLaws.{same-agent, agent-same}
 use Rattle.rules.specs.declared.State.{State}
@@ -63,7 +56,7 @@ module _ (t : State) (s : Sound t) (a : AgentNo) where
         },
       )
 
-  pub retry-found : (n : ℕ) → 1 ≤ n → n ≤ sent_by t a → (m : MailNo) × (find_sent t a n ≡ There m) × Sent t a n m
+  pub retry-found : (n : ℕ) → 1 ≤ n → n ≤ sent_by t a → (m : MailNo) × (find_sent t a n ≡ Some m) × Sent t a n m
   retry-found n h le =
       let x = sent-there n h le in
       let r =
@@ -72,14 +65,14 @@ module _ (t : State) (s : Sound t) (a : AgentNo) where
       (λ q. same_agent (message_at t q).sender a && eqb (message_at t q).number n)
       x.0.0
       x.1.there
-      (and_both
+      (and_from _ _
       (agent-same (message_at t x.0).sender a x.1.sender)
       (eq-eqb (message_at t x.0).number n x.1.number)) in (
         r.0,
         r.1,
         record {
           there = r.2;
-          sender = same-agent (message_at t r.0).sender a (and_left (same_agent (message_at t r.0).sender a) (eqb (message_at t r.0).number n) r.3);
-          number = eqb-true (message_at t r.0).number n (and_right (same_agent (message_at t r.0).sender a) (eqb (message_at t r.0).number n) r.3);
+          sender = same-agent (message_at t r.0).sender a (and_parts _ _ r.3).0;
+          number = eqb-true (message_at t r.0).number n (and_parts _ _ r.3).1;
         },
       )

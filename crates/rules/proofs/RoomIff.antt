@@ -1,17 +1,12 @@
 -- The room's test and the clause that it stands for.
-use Prim.Native.Nat.{ℕ, ◌≤◌}
-use mathlib.Core.Path.{◌≡◌, refl, ap}
-use mathlib.Core.Bool.{Bool, true}
-use lib.Dec.{eqb}
-use borrow.Author.Tests.{eqb-true}
+use Rattle.std.proofs.Common.{ℕ, ◌≤◌, ◌≡◌, refl, ap, Bool, true, eqb, eqb-true}
 use Rattle.records.specs.declared.AgentNo.{AgentNo}
 use Rattle.records.specs.declared.MailNo.{MailNo}
 use Rattle.records.specs.declared.Message.{Message}
-use Rattle.records.specs.declared.Stand.{Stand}
 use Rattle.records.specs.declared.Status.TheVariants.{Queued}
 use Rattle.records.specs.Numbers.{agent_no, mail_no}
 use Rattle.records.specs.Agents.{empty_agent, is_empty_agent}
-use Rattle.records.specs.Messages.{is_queued, standing, empty_message, empty_entry}
+use Rattle.records.specs.Messages.{is_queued, empty_message, empty_entry}
 use Rattle.records.proofs.PlaceLaws.{room-each, each-room}
 use Rattle.records.proofs.ReaderLaws.{empty-agent-is, status-is}
 use Rattle.rules.specs.Tests.{agent_room, party_room, number_room, status_room, log_room}
@@ -25,9 +20,6 @@ no_party a = eqb a.0 0
 
 abbrev no_number : ℕ → Bool
 no_number x = eqb x 0
-
-abbrev unsent : Stand → Bool
-unsent x = is_queued x.status
 
 abbrev no_entry : MailNo → Bool
 no_entry m = eqb m.0 0
@@ -60,7 +52,7 @@ module _ (t : State) where
         number = eqb-true (message_at t (mail_no i)).number 0 (room-each no_number 0 refl t.number t.messages hn i le) k;
         addressee = agent_no (eqb-true (message_at t (mail_no i)).addressee.0 0 (room-each no_party (agent_no 0) refl t.addressee t.messages ha i le) k);
         value = eqb-true (message_at t (mail_no i)).value 0 (room-each no_number 0 refl t.value t.messages hv i le) k;
-        status = status-is 0 (message_at t (mail_no i)).status (room-each unsent (standing Queued) refl t.status t.messages hu i le) k;
+        status = status-is 0 (message_at t (mail_no i)).status (room-each is_queued Queued refl t.status t.messages hu i le) k;
       }
 
   pub room-from : RoomTests → RoomEmpty t
@@ -81,6 +73,6 @@ module _ (t : State) where
         numbers = each-room no_number 0 refl t.number t.messages (λ i le. ap (λ (x : Message). no_number x.number) (r.messages i le));
         addressees = each-room no_party (agent_no 0) refl t.addressee t.messages (λ i le. ap (λ (x : Message). no_party x.addressee) (r.messages i le));
         values = each-room no_number 0 refl t.value t.messages (λ i le. ap (λ (x : Message). no_number x.value) (r.messages i le));
-        statuses = each-room unsent (standing Queued) refl t.status t.messages (λ i le. ap (λ (x : Message). is_queued x.status) (r.messages i le));
+        statuses = each-room is_queued Queued refl t.status t.messages (λ i le. ap (λ (x : Message). is_queued x.status) (r.messages i le));
         entries = each-room no_entry empty_entry refl t.log t.handed (λ i le. ap no_entry (r.log i le));
       }

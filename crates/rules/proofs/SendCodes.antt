@@ -1,19 +1,10 @@
 -- The codes of send, exactly when document 01 says.
-use Prim.Native.Nat.{ℕ, suc, ◌≤◌, ◌<◌}
-use native.Mathlib.Decide.{ℕ_discrete, dec_le}
-use native.Mathlib.Omega.{arith}
-use mathlib.Core.Path.{◌≡◌, refl, sym, ap, ◌∙◌, subst}
-use mathlib.Core.Logic.{◌⊎◌, inl, inr, ⊎_elim}
-use mathlib.Core.Bool.{Bool, false, cond, ◌&&◌}
-use mathlib.Core.List.{[], ◌∷◌}
-use lib.Dec.{eqb, leb, ltb}
-use borrow.Author.Tests.{eqb-true, eq-eqb, ne_eqb, leb-true, le-leb}
+use Rattle.std.proofs.Common.{Option, ℕ, suc, ◌≤◌, ◌<◌, arith, ◌≡◌, refl, sym, ap, ◌∙◌, subst, ◌⊎◌, inl, inr, ⊎_elim, Bool, false, cond, ◌&&◌, [], ◌∷◌, leb, ltb, eqb-true, eq-eqb, ne_eqb, leb-true, le-leb}
+use Rattle.std.proofs.Math.Decide.{ℕ_discrete, dec_le}
+use Rattle.std.proofs.lemmas.Bool.{and_parts, and_from, false_from_ne_true}
 use Rattle.records.specs.declared.AgentNo.{AgentNo}
 use Rattle.records.specs.declared.MailNo.{MailNo}
-use Rattle.records.specs.declared.Found.{Found}
 use Rattle.records.specs.declared.Code.TheVariants.{Done, Repeat, NoAgent, NotUp, MessagesFull, Changed, Gap, BadState}
-use Rattle.records.specs.Numbers.{same_agent}
-use Rattle.records.proofs.FlagLaws.{and_left, and_right, and_both, false-not}
 use Rattle.records.proofs.ReaderLaws.{same-agent, agent-same}
 use Rattle.rules.specs.declared.State.{State}
 use Rattle.rules.specs.declared.Reply.{Reply}
@@ -72,13 +63,13 @@ module _ (t : State) (s : Sound t) (a : AgentNo) (n : ℕ) (b : AgentNo) (v : �
       f (
         m,
         x,
-        same-agent (message_at t m).addressee b (and_left (same_agent (message_at t m).addressee b) (eqb (message_at t m).value v) h),
-        eqb-true (message_at t m).value v (and_right (same_agent (message_at t m).addressee b) (eqb (message_at t m).value v) h),
+        same-agent (message_at t m).addressee b (and_parts _ _ h).0,
+        eqb-true (message_at t m).value v (and_parts _ _ h).1,
       ))
       (λ f y.
       let one : y.0 ≡ m = sent-once t s a n y.0 m y.1 x in
       f
-      (and_both
+      (and_from _ _
       (agent-same (message_at t m).addressee b (ap (λ (q : MailNo). (message_at t q).addressee) (sym one) ∙ y.2))
       (eq-eqb (message_at t m).value v (ap (λ (q : MailNo). (message_at t q).value) (sym one) ∙ y.3))))
 
@@ -89,7 +80,7 @@ module _ (t : State) (s : Sound t) (a : AgentNo) (n : ℕ) (b : AgentNo) (v : �
       let r = retry-found t s a n h le in
       let answer = row (same_letter (message_at t r.0) b v) Changed t (repeated t r.0) (says Repeat) (same-refutes r.0 r.2) (λ x. refl) in
       subst
-      (λ (f : Found). NumberRows t a n b v (compare_sent t b v f))
+      (λ (f : Option MailNo). NumberRows t a n b v (compare_sent t b v f))
       (sym r.1) (
         λ g. absurd (⊎_elim (λ (z : n ≡ 0). omega arith) (λ (z : suc (sent_by t a) < n). omega arith) g),
         λ g. (
@@ -103,12 +94,12 @@ module _ (t : State) (s : Sound t) (a : AgentNo) (n : ℕ) (b : AgentNo) (v : �
 
   gap-code : (n ≡ 0) ⊎ (suc (sent_by t a) < n) → (leb 1 n && leb n (sent_by t a)) ≡ false
   gap-code g =
-      false-not
+      false_from_ne_true
       (leb 1 n && leb n (sent_by t a))
       (λ h.
       ⊎_elim
-      (λ (z : n ≡ 0). omega (arith, leb-true 1 n (and_left (leb 1 n) (leb n (sent_by t a)) h)))
-      (λ (z : suc (sent_by t a) < n). omega (arith, leb-true n (sent_by t a) (and_right (leb 1 n) (leb n (sent_by t a)) h)))
+      (λ (z : n ≡ 0). omega (arith, leb-true 1 n (and_parts _ _ h).0))
+      (λ (z : suc (sent_by t a) < n). omega (arith, leb-true n (sent_by t a) (and_parts _ _ h).1))
       g)
 
   old-codes : (n ≡ suc (sent_by t a) → ⊥) → NumberRows t a n b v (unless (leb 1 n && leb n (sent_by t a)) Gap t (retry t a n b v))
@@ -119,7 +110,7 @@ module _ (t : State) (s : Sound t) (a : AgentNo) (n : ℕ) (b : AgentNo) (v : �
               | yes le ↦
                   subst
                   (λ (x : Bool). NumberRows t a n b v (unless x Gap t (retry t a n b v)))
-                  (sym (and_both (le-leb 1 n h) (le-leb n (sent_by t a) le)))
+                  (sym (and_from _ _ (le-leb 1 n h) (le-leb n (sent_by t a) le)))
                   (retry-codes h le)
               | no gt ↦ gap (inr (omega arith))
             ]

@@ -1,19 +1,10 @@
 -- The five slips of earlier drafts: the rules do otherwise.
-use Prim.Native.Nat.{ℕ, zero, suc, ◌≤◌}
-use native.Mathlib.Omega.{arith}
-use mathlib.Core.Path.{◌≡◌, refl, sym, ap, ◌∙◌, subst}
-use mathlib.Core.Logic.{inl}
-use mathlib.Core.Bool.{Bool, true, false, not, cond, ◌&&◌, false≢true}
-use mathlib.Core.List.{List, [], ◌∷◌}
-use lib.ListN.{get_or, set}
-use lib.Seq.{get_or-set_other}
-use lib.Dec.{leb, eqb, lit≤}
-use borrow.Author.Tests.{eq-eqb, ne_eqb, eqb-true, lt-ltb, le-leb}
+use Rattle.std.proofs.Common.{Some, ℕ, zero, suc, ◌≤◌, arith, ◌≡◌, refl, sym, ap, ◌∙◌, subst, inl, Bool, true, false, not, cond, ◌&&◌, List, [], ◌∷◌, get_or, set, get_or-set_other, leb, eqb, lit≤, eq-eqb, ne_eqb, eqb-true, lt-ltb, le-leb}
+use Rattle.std.proofs.lemmas.Bool.{false≢true, and_parts, and_from, false_from_ne_true, not_from_false}
 use Rattle.records.specs.declared.AgentNo.{AgentNo}
 use Rattle.records.specs.declared.MailNo.{MailNo}
 use Rattle.records.specs.declared.Agent.{Agent}
 use Rattle.records.specs.declared.Phase.TheVariants.{Spawning, Born}
-use Rattle.records.specs.declared.Found.TheVariants.{There}
 use Rattle.records.specs.declared.Lock.TheVariants.{ForMail}
 use Rattle.records.specs.declared.Code.{Code}
 use Rattle.records.specs.declared.Code.TheVariants.{Done, NoAgent, NoMessage, NotUp, OutOfTurn, LockHeld, NotEnrolled, Changed, Gap, BadState}
@@ -22,7 +13,6 @@ use Rattle.records.specs.Numbers.{agent_no, mail_no, same_agent}
 use Rattle.records.specs.Agents.{empty_agent, is_born, is_asking, is_child, is_mapped, peer_of}
 use Rattle.records.specs.Messages.{is_queued}
 use Rattle.records.specs.Locks.{is_unheld}
-use Rattle.records.proofs.FlagLaws.{and_left, and_right, and_both, false-not, not-passes}
 use Rattle.records.proofs.PlaceLaws.{later-counts}
 use Rattle.records.proofs.ReaderLaws.{agent-same, same-agent, child-is}
 use Rattle.rules.specs.declared.State.{State}
@@ -124,13 +114,13 @@ module _ (t : State) (s : Sound t) (a : AgentNo) (n : ℕ) (b : AgentNo) (v : �
   unfolding retry
   retry-compares =
       let r = retry-found t s a n number-used.0 number-used.1 in
-      ap (compare_sent t b v) r.1 ∙ ap (λ (q : MailNo). compare_sent t b v (There q)) (sent-once t s a n r.0 m r.2 x)
+      ap (compare_sent t b v) r.1 ∙ ap (λ (q : MailNo). compare_sent t b v (Some q)) (sent-once t s a n r.0 m r.2 x)
 
   by_number_lem : by_number t a n b v ≡ compared
   unfolding by_number
   by_number_lem =
       ap (λ (c : Bool). cond c (take_new t a n b v) (unless (leb 1 n && leb n (sent_by t a)) Gap t (retry t a n b v))) (ne_eqb n (suc (sent_by t a)) (λ e. omega (arith, number-used.1)))
-      ∙ ap (λ (c : Bool). unless c Gap t (retry t a n b v)) (and_both (le-leb 1 n number-used.0) (le-leb n (sent_by t a) number-used.1))
+      ∙ ap (λ (c : Bool). unless c Gap t (retry t a n b v)) (and_from _ _ (le-leb 1 n number-used.0) (le-leb n (sent_by t a) number-used.1))
       ∙ retry-compares
 
   there : IsAgent t a
@@ -138,8 +128,8 @@ module _ (t : State) (s : Sound t) (a : AgentNo) (n : ℕ) (b : AgentNo) (v : �
 
   up : not (is_child (phase_of t a)) ≡ true
   up =
-      not-passes
-      (false-not
+      not_from_false _
+      (false_from_ne_true
       (is_child (phase_of t a))
       (λ c. s.parties.sender_up m x.there (peer_of (phase_of t a)) (subst (λ (y : AgentNo). Child t (peer_of (phase_of t a)) y) (sym x.sender) (child-is (phase_of t a) c))))
 
@@ -147,7 +137,7 @@ module _ (t : State) (s : Sound t) (a : AgentNo) (n : ℕ) (b : AgentNo) (v : �
   unfolding step_of
   retry-is =
       ap (λ (c : Bool). unless c BadState t (send_rule t a n b v)) (sound-to t s)
-      ∙ ap (λ (c : Bool). unless c NoAgent t (unless (not (is_child (phase_of t a))) NotUp t (by_number t a n b v))) (and_both (lt-ltb a.0 t.agents there) (lt-ltb b.0 t.agents to))
+      ∙ ap (λ (c : Bool). unless c NoAgent t (unless (not (is_child (phase_of t a))) NotUp t (by_number t a n b v))) (and_from _ _ (lt-ltb a.0 t.agents there) (lt-ltb b.0 t.agents to))
       ∙ ap (λ (c : Bool). unless c NotUp t (by_number t a n b v)) up
       ∙ by_number_lem
 
@@ -155,7 +145,7 @@ module _ (t : State) (s : Sound t) (a : AgentNo) (n : ℕ) (b : AgentNo) (v : �
   pub retry-same : (message_at t m).addressee ≡ b → (message_at t m).value ≡ v → step_of t (Send a n b v) ≡ repeated t m
   retry-same e f =
       retry-is
-      ∙ ap (λ (c : Bool). unless c Changed t (repeated t m)) (and_both (agent-same (message_at t m).addressee b e) (eq-eqb (message_at t m).value v f))
+      ∙ ap (λ (c : Bool). unless c Changed t (repeated t m)) (and_from _ _ (agent-same (message_at t m).addressee b e) (eq-eqb (message_at t m).value v f))
 
   -- another addressee or another value: refused
   pub retry-other-value : ((message_at t m).value ≡ v → ⊥) → step_of t (Send a n b v) ≡ refuse t Changed
@@ -163,15 +153,15 @@ module _ (t : State) (s : Sound t) (a : AgentNo) (n : ℕ) (b : AgentNo) (v : �
     where
       differs : same_letter (message_at t m) b v ≡ false
       differs =
-          false-not
+          false_from_ne_true
           (same_letter (message_at t m) b v)
-          (λ h. f (eqb-true (message_at t m).value v (and_right (same_agent (message_at t m).addressee b) (eqb (message_at t m).value v) h)))
+          (λ h. f (eqb-true (message_at t m).value v (and_parts (same_agent (message_at t m).addressee b) (eqb (message_at t m).value v) h).1))
 
   pub retry-other-addressee : ((message_at t m).addressee ≡ b → ⊥) → step_of t (Send a n b v) ≡ refuse t Changed
   retry-other-addressee f = retry-is ∙ ap (λ (c : Bool). unless c Changed t (repeated t m)) differs
     where
       differs : same_letter (message_at t m) b v ≡ false
       differs =
-          false-not
+          false_from_ne_true
           (same_letter (message_at t m) b v)
-          (λ h. f (same-agent (message_at t m).addressee b (and_left (same_agent (message_at t m).addressee b) (eqb (message_at t m).value v) h)))
+          (λ h. f (same-agent (message_at t m).addressee b (and_parts (same_agent (message_at t m).addressee b) (eqb (message_at t m).value v) h).0))

@@ -1,10 +1,6 @@
 -- The soundness test passes exactly where the table is sound.
-use Prim.Native.Nat.{ℕ}
-use native.Mathlib.Nat.{lt_of_lt_of_le}
-use mathlib.Core.Path.{◌≡◌, refl, sym, subst}
-use mathlib.Core.Logic.{◌↔◌}
-use mathlib.Core.Bool.{Bool, true}
-use borrow.Author.Tests.{ltb-true, lt-ltb}
+use Rattle.std.proofs.Common.{ℕ, lt_of_lt_of_le, ◌≡◌, refl, sym, subst, ◌↔◌, Bool, true, ltb-true, lt-ltb, arith}
+use Rattle.std.proofs.lemmas.Bool.{and_from}
 use Rattle.records.specs.declared.AgentNo.{AgentNo}
 use Rattle.records.specs.declared.SiteNo.{SiteNo}
 use Rattle.records.specs.declared.MailNo.{MailNo}
@@ -12,7 +8,6 @@ use Rattle.records.specs.declared.Lock.{Lock}
 use Rattle.records.specs.declared.Lock.TheVariants.{Unheld, ForMove, ForMail}
 use Rattle.records.specs.Numbers.{agent_no, mail_no}
 use Rattle.records.specs.Places.{all_below}
-use Rattle.records.proofs.FlagLaws.{and_left, and_right, and_both}
 use Rattle.records.proofs.PlaceLaws.{below_each, each_below}
 use Rattle.rules.specs.Tests.{agent_fine, lock_there, message_fine, each_fine, numbers_run, log_runs, book_fine, parts_sound, no_counts, no_marks}
 use Rattle.rules.specs.declared.State.{State}
@@ -99,27 +94,27 @@ module _ (t : State) where
   unfolding sound_test parts_sound each_fine book_fine
   sound-from h =
       gathered
-      (counts-from t (search (and_left, and_right)))
+      (counts-from t (grind arith))
       (record {
-        agents = search (and_left, and_right);
-        senders = search (and_left, and_right);
-        numbers = search (and_left, and_right);
-        addressees = search (and_left, and_right);
-        values = search (and_left, and_right);
-        statuses = search (and_left, and_right);
-        entries = search (and_left, and_right);
+        agents = grind arith;
+        senders = grind arith;
+        numbers = grind arith;
+        addressees = grind arith;
+        values = grind arith;
+        statuses = grind arith;
+        entries = grind arith;
       })
       (λ a lt. agent-from t a (below_each t.agents agent_test agents a.0 lt))
-      (search (and_left, and_right))
+      (grind arith)
       (λ m lt. message-from t m (below_each t.messages message_test messages m.0 lt))
-      (search (and_left, and_right))
-      (search (and_left, and_right))
+      (grind arith)
+      (grind arith)
     where
       agents : all_below t.agents agent_test ≡ true
-      agents = search (and_left, and_right)
+      agents = grind arith
 
       messages : all_below t.messages message_test ≡ true
-      messages = search (and_left, and_right)
+      messages = grind arith
 
   lock-there : Sound t → (l : Lock) → lock_of t ≡ l → lock_there t.agents t.messages l ≡ true
   lock-there s Unheld e = refl
@@ -154,25 +149,25 @@ module _ (t : State) where
   pub sound-to : Sound t → sound_test t ≡ true
   unfolding sound_test parts_sound each_fine book_fine
   sound-to s =
-      and_both
+      and_from _ _
       (counts-to t s.counts)
-      (and_both
-      (and_both
-      (and_both
+      (and_from _ _
+      (and_from _ _
+      (and_from _ _
       (each_below t.agents agent_test (λ i lt. agent-to t (agent_no i) (agent-right s (agent_no i) lt)))
       room.agents)
-      (and_both
+      (and_from _ _
       (lock-there s (lock_of t) refl)
-      (and_both
+      (and_from _ _
       (each_below t.messages message_test (λ i lt. message-to t (mail_no i) (message-right s (mail_no i) lt)))
-      (and_both room.senders room.addressees))))
-      (and_both
+      (and_from _ _ room.senders room.addressees))))
+      (and_from _ _
       room.values
-      (and_both
-      (and_both
+      (and_from _ _
+      (and_from _ _
       (numbers-to t (λ m lt. lt_of_lt_of_le (s.parties.sender m lt) s.counts.agents_fit) s.numbers)
       room.numbers)
-      (and_both (log-to t s.counts.messages_fit s.log) (and_both room.statuses room.entries)))))
+      (and_from _ _ (log-to t s.counts.messages_fit s.log) (and_from _ _ room.statuses room.entries)))))
     where
       room : RoomTests t
       room = room-to t s.room

@@ -1,19 +1,14 @@
 -- Document 01's twelve, P1 to P12, as one list with one statement: what each session tells, answer by answer, and the table it leaves.
-use Prim.Native.Nat.{ℕ, zero, suc}
-use mathlib.Core.Path.{◌≡◌, refl}
-use mathlib.Core.List.{List, [], ◌∷◌, map}
-use lib.ListN.{length, replicate}
+use Rattle.std.proofs.Common.{Some, None, ℕ, zero, suc, ◌≡◌, refl, List, [], ◌∷◌, map, length, replicate}
 use Rattle.records.specs.declared.MailNo.{MailNo}
 use Rattle.records.specs.declared.Agent.{Agent}
 use Rattle.records.specs.declared.Phase.TheVariants.{Free, Spawning, Born, Asking, Booked}
-use Rattle.records.specs.declared.Mapped.TheVariants.{Nowhere, At}
 use Rattle.records.specs.declared.Message.{Message}
 use Rattle.records.specs.declared.Status.TheVariants.{Queued, Closed}
 use Rattle.records.specs.declared.Lock.TheVariants.{Unheld}
 use Rattle.records.specs.Numbers.{agent_no, site_no, mail_no}
 use Rattle.records.specs.Agents.{empty_agent}
-use Rattle.records.specs.Messages.{empty_entry, standing}
-use Rattle.records.specs.Locks.{holding}
+use Rattle.records.specs.Messages.{empty_entry}
 use Rattle.rules.specs.declared.State.{State}
 use Rattle.rules.specs.declared.Step.{Step}
 use Rattle.rules.specs.declared.Step.TheVariants.{Spawn, Ask, Send, Enrol, Greet, Grant, Leap, Book, Forward, Hand, Close}
@@ -35,19 +30,19 @@ holds sites agents messages log =
       agents = length agents;
       messages = length messages;
       handed = length log;
-      held = holding Unheld;
+      lock = Unheld;
       agent = filled 64 empty_agent agents;
       sender = filled 512 (agent_no 0) (map (λ (m : Message). m.sender) messages);
       number = filled 512 0 (map (λ (m : Message). m.number) messages);
       addressee = filled 512 (agent_no 0) (map (λ (m : Message). m.addressee) messages);
       value = filled 512 0 (map (λ (m : Message). m.value) messages);
-      status = filled 512 (standing Queued) (map (λ (m : Message). standing m.status) messages);
+      status = filled 512 Queued (map (λ (m : Message). m.status) messages);
       log = filled 512 empty_entry log;
     }
 
 -- agent 0 as it is after opening, and a table of three sites with that agent alone
 unfoldable pub first : Agent
-first = record { site = site_no 0; phase = Free; map = At (site_no 0) }
+first = record { site = site_no 0; phase = Free; map = Some (site_no 0) }
 
 unfoldable pub fresh : State
 unfolding holds first
@@ -116,7 +111,7 @@ unfolding session holds first fresh
 cases =
     case (session 3 steps_s) fifteen
     (holds 3
-    (first ∷ record { site = site_no 2; phase = Booked; map = At (site_no 2) } ∷ [])
+    (first ∷ record { site = site_no 2; phase = Booked; map = Some (site_no 2) } ∷ [])
     (record { sender = agent_no 0; number = 1; addressee = agent_no 1; value = 77; status = Closed } ∷ [])
     (mail_no 0 ∷ []))
     ∷ case (session 0 []) (says 22 0 ∷ []) no_state
@@ -124,7 +119,7 @@ cases =
     ∷ case (session 16 []) (says 0 0 ∷ []) (holds 16 (first ∷ []) [] [])
     ∷ case (session 3 (Ask (agent_no 0) (site_no 3) ∷ [])) (says 0 0 ∷ says 10 0 ∷ []) fresh
     ∷ case (session 3 (Ask (agent_no 0) (site_no 0) ∷ [])) (says 0 0 ∷ says 0 0 ∷ [])
-    (holds 3 (record { site = site_no 0; phase = Asking (site_no 0); map = At (site_no 0) } ∷ []) [] [])
+    (holds 3 (record { site = site_no 0; phase = Asking (site_no 0); map = Some (site_no 0) } ∷ []) [] [])
     ∷ case (session 3 (Send (agent_no 0) 0 (agent_no 0) 5 ∷ [])) (says 0 0 ∷ says 21 0 ∷ []) fresh
     ∷ case (session 3 (Send (agent_no 0) 2 (agent_no 0) 5 ∷ [])) (says 0 0 ∷ says 21 0 ∷ []) fresh
     ∷ case (session 3 (Send (agent_no 0) 1 (agent_no 1) 5 ∷ [])) (says 0 0 ∷ says 11 0 ∷ []) fresh
@@ -133,8 +128,8 @@ cases =
     ∷ case (session 3 (Spawn (agent_no 0) ∷ Send (agent_no 0) 1 (agent_no 1) 5 ∷ Forward (mail_no 0) ∷ []))
     (says 0 0 ∷ says 0 1 ∷ says 0 0 ∷ says 17 0 ∷ [])
     (holds 3
-    (record { site = site_no 0; phase = Spawning (agent_no 1); map = At (site_no 0) }
-    ∷ record { site = site_no 0; phase = Born (agent_no 0); map = Nowhere }
+    (record { site = site_no 0; phase = Spawning (agent_no 1); map = Some (site_no 0) }
+    ∷ record { site = site_no 0; phase = Born (agent_no 0); map = None }
     ∷ [])
     (record { sender = agent_no 0; number = 1; addressee = agent_no 1; value = 5; status = Queued } ∷ [])
     [])

@@ -1,24 +1,20 @@
 -- What the table holds, how it is read, and the one place for each kind of change to it. Assumes nothing.
-use Rattle.std.specs.Prelude.{ℕ, suc, ◌<◌, ◌≡◌, Bool, cond, List, [], ◌∷◌, length, set, take, replicate, ltb}
+use Rattle.std.specs.Prelude.{ℕ, suc, ◌<◌, ◌≡◌, Bool, cond, List, [], ◌∷◌, length, set, take, replicate, ltb, Option}
 use Rattle.records.specs.declared.AgentNo.{AgentNo}
 use Rattle.records.specs.declared.SiteNo.{SiteNo}
 use Rattle.records.specs.declared.MailNo.{MailNo}
 use Rattle.records.specs.declared.Agent.{Agent}
 use Rattle.records.specs.declared.Phase.{Phase}
-use Rattle.records.specs.declared.Mapped.{Mapped}
 use Rattle.records.specs.declared.Message.{Message}
 use Rattle.records.specs.declared.Status.{Status}
 use Rattle.records.specs.declared.Status.TheVariants.{Queued}
 use Rattle.records.specs.declared.Item.{Item}
-use Rattle.records.specs.declared.Stand.{Stand}
-use Rattle.records.specs.declared.Held.{Held}
 use Rattle.records.specs.declared.Lock.{Lock}
 use Rattle.records.specs.declared.Lock.TheVariants.{Unheld}
 use Rattle.records.specs.Limits.{most_agents, most_messages}
 use Rattle.records.specs.Numbers.{agent_no, mail_no, same_agent}
 use Rattle.records.specs.Agents.{empty_agent}
-use Rattle.records.specs.Messages.{standing, empty_entry, item_of}
-use Rattle.records.specs.Locks.{holding}
+use Rattle.records.specs.Messages.{empty_entry, item_of}
 use Rattle.rules.specs.Tests.{agent_in, message_in, entry_in}
 use Rattle.rules.specs.declared.State.{State}
 
@@ -61,7 +57,7 @@ site_of t a = (agent_at t a).site
 abbrev pub phase_of : State → AgentNo → Phase
 phase_of t a = (agent_at t a).phase
 
-abbrev pub map_of : State → AgentNo → Mapped
+abbrev pub map_of : State → AgentNo → Option SiteNo
 map_of t a = (agent_at t a).map
 
 -- each message: sender, sender's number, addressee, value, status
@@ -72,7 +68,7 @@ abbrev pub status_of : State → MailNo → Status
 status_of t m = (message_at t m).status
 
 abbrev pub lock_of : State → Lock
-lock_of t = t.held.lock
+lock_of t = t.lock
 
 -- the log: message numbers in order of handing
 abbrev pub log_at : State → ℕ → MailNo
@@ -99,13 +95,13 @@ no_state =
       agents = 0;
       messages = 0;
       handed = 0;
-      held = holding Unheld;
+      lock = Unheld;
       agent = replicate most_agents empty_agent;
       sender = replicate most_messages (agent_no 0);
       number = replicate most_messages 0;
       addressee = replicate most_messages (agent_no 0);
       value = replicate most_messages 0;
-      status = replicate most_messages (standing Queued);
+      status = replicate most_messages Queued;
       log = replicate most_messages empty_entry;
     }
 
@@ -118,7 +114,7 @@ with_agents t count agent =
       agents = count;
       messages = t.messages;
       handed = t.handed;
-      held = t.held;
+      lock = t.lock;
       agent = agent;
       sender = t.sender;
       number = t.number;
@@ -128,15 +124,15 @@ with_agents t count agent =
       log = t.log;
     }
 
--- the same table with another lock
-abbrev pub with_held : State → Held → State
-with_held t held =
+-- the same table with the lock in another state
+abbrev pub with_lock : State → Lock → State
+with_lock t l =
     record {
       sites = t.sites;
       agents = t.agents;
       messages = t.messages;
       handed = t.handed;
-      held = held;
+      lock = l;
       agent = t.agent;
       sender = t.sender;
       number = t.number;
@@ -147,14 +143,14 @@ with_held t held =
     }
 
 -- the same table with other messages, and so many of them
-abbrev pub with_messages : State → ℕ → List AgentNo → List ℕ → List AgentNo → List ℕ → List Stand → State
+abbrev pub with_messages : State → ℕ → List AgentNo → List ℕ → List AgentNo → List ℕ → List Status → State
 with_messages t count sender number addressee value status =
     record {
       sites = t.sites;
       agents = t.agents;
       messages = count;
       handed = t.handed;
-      held = t.held;
+      lock = t.lock;
       agent = t.agent;
       sender = sender;
       number = number;
@@ -172,7 +168,7 @@ with_log t count log =
       agents = t.agents;
       messages = t.messages;
       handed = count;
-      held = t.held;
+      lock = t.lock;
       agent = t.agent;
       sender = t.sender;
       number = t.number;
@@ -193,16 +189,12 @@ next_agent t = agent_no t.agents
 abbrev pub with_new_agent : State → Agent → State
 with_new_agent t x = with_agents t (suc t.agents) (set t.agent t.agents x)
 
--- the same table with the lock in another state
-abbrev pub with_lock : State → Lock → State
-with_lock t l = with_held t (holding l)
-
 -- the same table with other statuses, and with another status for one message
-abbrev pub with_statuses : State → List Stand → State
+abbrev pub with_statuses : State → List Status → State
 with_statuses t status = with_messages t t.messages t.sender t.number t.addressee t.value status
 
 abbrev pub with_status : State → MailNo → Status → State
-with_status t m s = with_statuses t (set t.status m.0 (standing s))
+with_status t m s = with_statuses t (set t.status m.0 s)
 
 -- the number of the next message, and the same table with that message
 abbrev pub next_message : State → MailNo
@@ -216,7 +208,7 @@ with_new_message t x =
     (set t.number t.messages x.number)
     (set t.addressee t.messages x.addressee)
     (set t.value t.messages x.value)
-    (set t.status t.messages (standing x.status))
+    (set t.status t.messages x.status)
 
 -- the same table with one more message in the log
 abbrev pub with_logged : State → MailNo → State

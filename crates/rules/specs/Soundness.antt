@@ -1,10 +1,9 @@
 -- When a table is sound: the clauses, in document 01's order. Assumes nothing.
-use Rattle.std.specs.Prelude.{ℕ, suc, ◌≤◌, ◌<◌, ◌≡◌, ◌⊎◌, ◌↔◌}
+use Rattle.std.specs.Prelude.{ℕ, suc, ◌≤◌, ◌<◌, ◌≡◌, ◌⊎◌, ◌↔◌, Some, None}
 use Rattle.records.specs.declared.AgentNo.{AgentNo}
 use Rattle.records.specs.declared.SiteNo.{SiteNo}
 use Rattle.records.specs.declared.MailNo.{MailNo}
 use Rattle.records.specs.declared.Phase.TheVariants.{Spawning, Born, Enrolled, Asking, Granted, Landed}
-use Rattle.records.specs.declared.Mapped.TheVariants.{Nowhere, At}
 use Rattle.records.specs.declared.Status.TheVariants.{Out, Handed, Closed, Lost}
 use Rattle.records.specs.declared.Lock.TheVariants.{ForMove, ForMail}
 use Rattle.records.specs.Numbers.{agent_no, mail_no, same_agent, same_mail}
@@ -55,7 +54,7 @@ pub record SitesThere (t : State) : Type 0 where
   pub own : (a : AgentNo) → IsAgent t a → IsSite t (site_of t a)
   pub asked : (a : AgentNo) → IsAgent t a → (u : SiteNo) → phase_of t a ≡ Asking u → IsSite t u
   pub granted : (a : AgentNo) → IsAgent t a → (u : SiteNo) → phase_of t a ≡ Granted u → IsSite t u
-  pub mapped : (a : AgentNo) → IsAgent t a → (s : SiteNo) → map_of t a ≡ At s → IsSite t s
+  pub mapped : (a : AgentNo) → IsAgent t a → (s : SiteNo) → map_of t a ≡ Some s → IsSite t s
   pub out : (m : MailNo) → IsMessage t m → (s : SiteNo) → status_of t m ≡ Out s → IsSite t s
 
 -- each spawning agent and its born or enrolled child name each other, both ways, and share a site
@@ -65,7 +64,7 @@ pub record FamiliesMatch (t : State) : Type 0 where
 
 -- exactly the born agents have no map entry
 abbrev pub BornUnmapped : State → Type 0
-BornUnmapped t = (a : AgentNo) → IsAgent t a → (map_of t a ≡ Nowhere) ↔ ((p : AgentNo) × (phase_of t a ≡ Born p))
+BornUnmapped t = (a : AgentNo) → IsAgent t a → (map_of t a ≡ None) ↔ ((p : AgentNo) × (phase_of t a ≡ Born p))
 
 -- the map equals the site for every other agent that isn't landed
 abbrev pub MapRight : State → Type 0
@@ -74,7 +73,7 @@ MapRight t =
     → IsAgent t a
     → ((p : AgentNo) → phase_of t a ≡ Born p → ⊥)
     → (phase_of t a ≡ Landed → ⊥)
-    → map_of t a ≡ At (site_of t a)
+    → map_of t a ≡ Some (site_of t a)
 
 -- the lock is held for an agent exactly when it is there and granted or landed, for a message exactly when it is there and out or
 -- handed; so it is free where there is none of these

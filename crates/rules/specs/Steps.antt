@@ -1,16 +1,13 @@
 -- Opening, and the twelve steps: each with its codes in their order, its number and its next table. Assumes nothing.
-use Rattle.std.specs.Prelude.{ℕ, suc, Bool, cond, not, ◌&&◌, set, leb, ltb, eqb}
+use Rattle.std.specs.Prelude.{ℕ, suc, Bool, cond, not, ◌&&◌, set, leb, ltb, eqb, Some, Option, None}
 use Rattle.records.specs.declared.AgentNo.{AgentNo}
 use Rattle.records.specs.declared.SiteNo.{SiteNo}
 use Rattle.records.specs.declared.MailNo.{MailNo}
 use Rattle.records.specs.declared.Phase.{Phase}
 use Rattle.records.specs.declared.Phase.TheVariants.{Free, Spawning, Enrolled, Asking, Granted, Landed, Booked}
-use Rattle.records.specs.declared.Mapped.TheVariants.{At}
 use Rattle.records.specs.declared.Message.{Message}
 use Rattle.records.specs.declared.Status.TheVariants.{Queued, Out, Handed, Closed, Lost}
 use Rattle.records.specs.declared.Lock.TheVariants.{Unheld, ForMove, ForMail}
-use Rattle.records.specs.declared.Found.{Found}
-use Rattle.records.specs.declared.Found.TheVariants.{Missing, There}
 use Rattle.records.specs.declared.Code.TheVariants.{NoSite, NoAgent, NoMessage, Busy, NotUp, OutOfTurn, LockHeld, NotEnrolled, AgentsFull, MessagesFull, Changed, Gap, BadCount, BadState}
 use Rattle.records.specs.Numbers.{site_no, mail_no, same_agent, same_site}
 use Rattle.records.specs.Agents.{is_free, is_born, is_enrolled, is_asking, is_granted, is_landed, is_booked, is_child, peer_of, target_of, is_mapped, map_site, born_of, with_phase, moved_to, mapped_here}
@@ -34,8 +31,8 @@ opened s =
       agents = 1;
       messages = 0;
       handed = 0;
-      held = no_state.held;
-      agent = set no_state.agent 0 (record { site = site_no 0; phase = Free; map = At (site_no 0) });
+      lock = no_state.lock;
+      agent = set no_state.agent 0 (record { site = site_no 0; phase = Free; map = Some (site_no 0) });
       sender = no_state.sender;
       number = no_state.number;
       addressee = no_state.addressee;
@@ -82,16 +79,16 @@ take_new t a n b v =
 
 -- A retry is found by its sender and number, whatever has become of the message. With the addressee and value that were taken it is a
 -- repeat, and with others it is refused.
-abbrev pub find_sent : State → AgentNo → ℕ → Found
+abbrev pub find_sent : State → AgentNo → ℕ → Option MailNo
 find_sent t a n =
     last_below t.messages (λ m. same_agent (message_at t m).sender a && eqb (message_at t m).number n)
 
 abbrev pub same_letter : Message → AgentNo → ℕ → Bool
 same_letter x b v = same_agent x.addressee b && eqb x.value v
 
-abbrev pub compare_sent : State → AgentNo → ℕ → Found → Reply
-compare_sent t b v Missing = refuse t Changed
-compare_sent t b v (There m) = unless (same_letter (message_at t m) b v) Changed t (repeated t m)
+abbrev pub compare_sent : State → AgentNo → ℕ → Option MailNo → Reply
+compare_sent t b v None = refuse t Changed
+compare_sent t b v (Some m) = unless (same_letter (message_at t m) b v) Changed t (repeated t m)
 
 unfoldable pub retry : State → AgentNo → ℕ → AgentNo → ℕ → Reply
 unfolding last_below

@@ -3,9 +3,10 @@
 #![tactic(auto)]
 
 use records::limits::{AGENT_ROOM, MESSAGE_ROOM};
-use records::{Agent, AgentNo, Code, Held, Item, MailNo, Message, SiteNo, Stand};
+use records::{Agent, AgentNo, Code, Lock, MailNo, SiteNo, Status};
 
-// The counts come first; past them each array holds the empty filling. A message's five fields stand at its number in five arrays.
+// The counts come first; past them each array holds the empty filling. A message's five fields stand at its number in five arrays, and
+// not in one array of messages: a search reads two of them. Counts stand beside the arrays, since nothing lives on the heap.
 #[derive(Clone, Copy)]
 pub struct State {
     pub sites: u32,
@@ -13,18 +14,19 @@ pub struct State {
     pub messages: u32,
     // the log's length
     pub handed: u32,
-    pub held: Held,
+    pub lock: Lock,
     pub agent: [Agent; AGENT_ROOM],
     pub sender: [AgentNo; MESSAGE_ROOM],
     pub number: [u32; MESSAGE_ROOM],
     pub addressee: [AgentNo; MESSAGE_ROOM],
     pub value: [u32; MESSAGE_ROOM],
-    pub status: [Stand; MESSAGE_ROOM],
+    pub status: [Status; MESSAGE_ROOM],
     // message numbers in the order of handing
     pub log: [MailNo; MESSAGE_ROOM],
 }
 
-// What every step hands back: the table as it now stands, a code, and a number that is 0 where the rules name none.
+// What every step hands back: the table as it now stands, a code, and a number that is 0 where the rules name none. The definition of
+// every rule answers this record.
 #[derive(Clone, Copy)]
 pub struct Reply {
     pub state: State,
@@ -32,23 +34,11 @@ pub struct Reply {
     pub number: u32,
 }
 
-// What a reader finds under a number.
+// What a step that is not refused has done: it was taken, with the number that its rule names, or its message was taken before.
 #[derive(Clone, Copy)]
-pub enum AgentRead {
-    NoSuch,
-    There(Agent),
-}
-
-#[derive(Clone, Copy)]
-pub enum MessageRead {
-    NoSuch,
-    There(Message),
-}
-
-#[derive(Clone, Copy)]
-pub enum ItemRead {
-    NoSuch,
-    There(Item),
+pub enum Taken {
+    Done(u32),
+    Repeat(MailNo),
 }
 
 // The twelve steps.

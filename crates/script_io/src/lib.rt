@@ -23,7 +23,8 @@ pub fn input_room() -> [u8; INPUT_ROOM]
     [0; INPUT_ROOM]
 }
 
-// Makes room for the output of any script.
+// Makes room for the output of any script. It is a function of its own, beside the room for a script: where the array is written out, the
+// check unfolds it, to no end.
 fn output_room() -> [u8; MOST_OUTPUT]
     ensures { most_output ≡ length result }
 {
@@ -38,18 +39,19 @@ fn fill(script: &[u8], output: &mut [u8]) -> usize
     run(script, output)
 }
 
-// Writes bytes to a writer, to the last one. Where a write fails or takes nothing, that is the error, and a front part was written.
+// Writes bytes to a writer, to the last one. Where a write fails or takes nothing, that is the error, and a front part was written. std's
+// `write_all` tries an interrupted write again and says nothing of what an error leaves.
 fn write_bytes<W: Write>(out: &mut W, bytes: &[u8]) -> io::Result<()>
     ensures ok { OnOk result (Appends (W.contents out.old) (W.contents out.new) bytes.now) }
     ensures err { OnErr result (AppendsFront (W.contents out.old) (W.contents out.new) bytes.now) }
 {
-    let mut done = 0;
-    while done < bytes.len() {
-        let count = out.write(&bytes[done..])?;
+    let mut rest = bytes;
+    while !rest.is_empty() {
+        let count = out.write(rest)?;
         if count == 0 {
             return Err(ErrorKind::WriteZero.into());
         }
-        done += count;
+        rest = &rest[count..];
     }
     Ok(())
 }
@@ -71,4 +73,53 @@ pub fn print<W: Write>(out: &mut W, script: &[u8]) -> io::Result<()>
 {
     let mut output = output_room();
     write_output(out, script, &mut output)
+}
+
+#[cfg(test)]
+mod tests {
+    use super::*;
+
+    // A writer that takes at most seven bytes a time, and fails where its room is full.
+    #[derive(Drop)]
+    struct Breaking<'a> {
+        room: &'a mut [u8],
+    }
+
+    impl Write for Breaking<'_> {
+        fn write(&mut self, buf: &[u8]) -> io::Result<usize> {
+            if self.room.is_empty() {
+                return Err(ErrorKind::Interrupted.into());
+            }
+            let most = buf.len().min(7);
+            self.room.write(&buf[..most])
+        }
+
+        fn flush(&mut self) -> io::Result<()> {
+            Ok(())
+        }
+    }
+
+    // What was written before a write failed is the front of the output, and the error comes out.
+    #[test]
+    fn keeps_what_was_written_before_an_error(rt: HostRuntime) {
+        let mut held = [b'#'; 20];
+        let kind = match print(&mut Breaking { room: &mut held }, b"sites=2\nspawn=0\n") {
+            Ok(()) => None,
+            Err(e) => Some(e.kind()),
+        };
+        assert_eq!(rt; kind, Some(ErrorKind::Interrupted));
+        assert_eq!(rt; held, *b"line.1=0,0\nline.2=0,");
+    }
+
+    // A writer that takes nothing more is an error too, and not the end of the output.
+    #[test]
+    fn answers_a_writer_that_takes_nothing(rt: HostRuntime) {
+        let mut held = [b'#'; 20];
+        let kind = match print(&mut held.as_mut_slice(), b"sites=2\nspawn=0\n") {
+            Ok(()) => None,
+            Err(e) => Some(e.kind()),
+        };
+        assert_eq!(rt; kind, Some(ErrorKind::WriteZero));
+        assert_eq!(rt; held, *b"line.1=0,0\nline.2=0,");
+    }
 }

@@ -1,143 +1,99 @@
-// The step send: a new message, or a retry of one.
+// The rule of send: a new message, or a retry of one. It changes a table in place, and stands on every table, sound or not: a place past
+// an array reads as its filling.
 #![tactic(auto)]
 
-ghost use Rattle.std.specs.Prelude.{◌≡◌, ◌&&◌, ◌≤◌, eqb, get_or};
-ghost use Rattle.records.specs.Limits.{most_messages};
-ghost use Rattle.records.specs.declared.Code.TheVariants.{BadState};
-ghost use Rattle.records.specs.Numbers.{mail_no, same_agent};
-ghost use Rattle.records.specs.Places.{count_below, last_below};
-ghost use Rattle.rules.specs.Answers.{unless};
-ghost use Rattle.rules.specs.Fitting.{FitIfSound};
-ghost use Rattle.rules.specs.Steps.{take_new, retry, by_number, send_rule, step_of};
-ghost use Rattle.rules.specs.Tests.{party_in};
+ghost use Rattle.std.specs.Prelude.{◌≡◌};
+ghost use Rattle.rules.specs.Answers.{reply_of};
+ghost use Rattle.rules.specs.Steps.{sent_by, take_new, find_sent, retry, by_number, send_rule};
 
-use parts::{agent_in, done, is_sound, refused, repeated};
-use records::agents::{BORN, ENROLLED, phase_kind};
-use records::flags::both;
-use records::limits::{MESSAGE_ROOM, MOST_MESSAGES};
-use records::messages::standing;
-use records::{AgentNo, Code, Found, MailNo, Status};
-use rules::{Reply, State, Step};
+use readers::{agent_at, message_in};
+use records::limits::MOST_MESSAGES;
+use records::places::{get_or, set_at};
+use records::{AgentNo, Code, MailNo, Message, Status};
+use rules::{State, Taken};
 
-// The message that a numbers n, to b with the value v. The number is the message's.
-pub fn send(t: State, a: AgentNo, n: u32, b: AgentNo, v: u32) -> Reply
-    ensures { result ≡ step_of t (Step.Send a n b v) }
+// The message that a numbers n, to b with the value v. Tests the two agents, and then goes by the number, which is the message's.
+#[tactic(auto, unfolding(rules::specs::Steps::send_rule))]
+pub fn send_rule(t: &mut State, a: AgentNo, n: u32, b: AgentNo, v: u32) -> Result<Taken, Code>
+    ensures { reply_of t.new result ≡ send_rule t.old a n b v }
 {
-    let sound = is_sound(t);
-    send_rule(t, sound, a, n, b, v)
-}
-
-// Tests the two agents, and then goes by the number.
-fn send_rule(mut t: State, sound: bool, a: AgentNo, n: u32, b: AgentNo, v: u32) -> Reply
-    requires { FitIfSound sound t }
-    ensures { result ≡ unless sound BadState t (send_rule t a n b v) }
-{
-    if !sound {
-        return refused(t, Code::BadState);
+    let one = agent_at(t, a).ok_or(Code::NoAgent)?;
+    if b.0 >= t.agents {
+        return Err(Code::NoAgent);
     }
-    let agents = t.agents;
-    if agents <= a.0 {
-        return refused(t, Code::NoAgent);
+    if one.phase.is_child() {
+        return Err(Code::NotUp);
     }
-    if agents <= b.0 {
-        return refused(t, Code::NoAgent);
-    }
-    let agent = t.agent;
-    let one = agent_in(agent, a);
-    let phase = one.phase;
-    let kind = phase_kind(phase);
-    if kind == BORN {
-        return refused(t, Code::NotUp);
-    }
-    if kind == ENROLLED {
-        return refused(t, Code::NotUp);
-    }
-    by_number(t, a, n, b, v)
+    by_number(
+        t,
+        Message {
+            sender: a,
+            number: n,
+            addressee: b,
+            value: v,
+            status: Status::Queued,
+        },
+    )
 }
 
 // The number after the last one is a new message, the numbers up to it are retries.
-fn by_number(mut t: State, a: AgentNo, n: u32, b: AgentNo, v: u32) -> Reply
-    requires { t.messages ≤ most_messages }
-    ensures { result ≡ by_number t a n b v }
+#[tactic(auto, unfolding(rules::specs::Steps::by_number))]
+fn by_number(t: &mut State, new: Message) -> Result<Taken, Code>
+    ensures { reply_of t.new result ≡ by_number t.old new.sender new.number new.addressee new.value }
 {
-    let messages = t.messages;
-    let sender = t.sender;
-    let sent = sent_by(messages, sender, a);
-    if n == sent + 1 {
-        return take_new(t, a, n, b, v);
+    if new.number == 0 {
+        return Err(Code::Gap);
     }
-    if n == 0 {
-        return refused(t, Code::Gap);
+    let sent = sent_by(t, new.sender);
+    if new.number - 1 == sent {
+        return take_new(t, new);
     }
-    if sent < n {
-        return refused(t, Code::Gap);
+    if new.number > sent {
+        return Err(Code::Gap);
     }
-    retry(t, a, n, b, v)
+    retry(t, new)
 }
 
-// Takes the message n of a as the next one, queued.
-fn take_new(mut t: State, a: AgentNo, n: u32, b: AgentNo, v: u32) -> Reply
-    ensures { result ≡ take_new t a n b v }
+// Takes a message as the next one, queued.
+#[tactic(auto, unfolding(rules::specs::Steps::take_new))]
+fn take_new(t: &mut State, new: Message) -> Result<Taken, Code>
+    ensures { reply_of t.new result ≡ take_new t.old new.sender new.number new.addressee new.value }
 {
-    let messages = t.messages;
-    if MOST_MESSAGES <= messages {
-        return refused(t, Code::MessagesFull);
+    let m = t.messages;
+    if m >= MOST_MESSAGES {
+        return Err(Code::MessagesFull);
     }
-    let i = messages as usize;
-    let mut sender = t.sender;
-    sender[i] = a;
-    t.sender = sender;
-    let mut number = t.number;
-    number[i] = n;
-    t.number = number;
-    let mut addressee = t.addressee;
-    addressee[i] = b;
-    t.addressee = addressee;
-    let mut value = t.value;
-    value[i] = v;
-    t.value = value;
-    let mut status = t.status;
-    status[i] = standing(Status::Queued);
-    t.status = status;
-    t.messages = messages + 1;
-    done(t, messages)
+    set_at(&mut t.sender, m, new.sender);
+    set_at(&mut t.number, m, new.number);
+    set_at(&mut t.addressee, m, new.addressee);
+    set_at(&mut t.value, m, new.value);
+    set_at(&mut t.status, m, Status::Queued);
+    t.messages += 1;
+    Ok(Taken::Done(m))
 }
 
 // A retry is the same message if it has the addressee and the value that were taken, queued still or long closed.
-fn retry(t: State, a: AgentNo, n: u32, b: AgentNo, v: u32) -> Reply
-    requires { t.messages ≤ most_messages }
-    ensures { result ≡ retry t a n b v }
+#[tactic(auto, unfolding(rules::specs::Steps::retry))]
+fn retry(t: &State, new: Message) -> Result<Taken, Code>
+    ensures { reply_of t.now result ≡ retry t.now new.sender new.number new.addressee new.value }
 {
-    let messages = t.messages;
-    let sender = t.sender;
-    let number = t.number;
-    let Found::There(m) = find_sent(messages, sender, number, a, n) else {
-        return refused(t, Code::Changed);
-    };
-    let i = m.0 as usize;
-    let addressee = t.addressee;
-    let to = addressee[i];
-    if to.0 != b.0 {
-        return refused(t, Code::Changed);
+    let m = find_sent(t, new.sender, new.number).ok_or(Code::Changed)?;
+    let taken = message_in(t, m);
+    if taken.addressee != new.addressee || taken.value != new.value {
+        return Err(Code::Changed);
     }
-    let value = t.value;
-    if value[i] != v {
-        return refused(t, Code::Changed);
-    }
-    repeated(t, m)
+    Ok(Taken::Repeat(m))
 }
 
-// How many messages were taken from a.
-fn sent_by(messages: u32, sender: [AgentNo; MESSAGE_ROOM], a: AgentNo) -> u32
-    requires { messages ≤ most_messages }
-    ensures { result ≡ count_below messages (λ i. same_agent (party_in sender (mail_no i)) a) }
+// How many messages were taken from a. The messages are gone through by number, here and below: past the array the definitions count the
+// filling, which a chain over a slice would leave out.
+#[tactic(auto, unfolding(records::specs::Places::count_below))]
+fn sent_by(t: &State, a: AgentNo) -> u32
+    ensures { result ≡ sent_by t.now a }
 {
-    let mut count: u32 = 0;
-    let mut i: u32 = 0;
-    while i < messages {
-        let from = sender[i as usize];
-        i += 1;
-        if from.0 == a.0 {
+    let mut count = 0;
+    for i in 0..t.messages {
+        if get_or(&t.sender, i, AgentNo(0)) == a {
             count += 1;
         }
     }
@@ -145,24 +101,14 @@ fn sent_by(messages: u32, sender: [AgentNo; MESSAGE_ROOM], a: AgentNo) -> u32
 }
 
 // The message that was taken from a under the number n, whatever has become of it.
-fn find_sent(
-    messages: u32,
-    sender: [AgentNo; MESSAGE_ROOM],
-    number: [u32; MESSAGE_ROOM],
-    a: AgentNo,
-    n: u32,
-) -> Found
-    requires { messages ≤ most_messages }
-    ensures { result ≡ last_below messages (λ m. same_agent (party_in sender m) a && eqb (get_or number m.0 0) n) }
+#[tactic(auto, unfolding(records::specs::Places::last_below))]
+fn find_sent(t: &State, a: AgentNo, n: u32) -> Option<MailNo>
+    ensures { result ≡ find_sent t.now a n }
 {
-    let mut i = messages;
-    while 0 < i {
-        i -= 1;
-        let from = sender[i as usize];
-        let used = number[i as usize];
-        if both(from.0 == a.0, used == n) {
-            return Found::There(MailNo(i));
+    for i in (0..t.messages).rev() {
+        if get_or(&t.sender, i, AgentNo(0)) == a && get_or(&t.number, i, 0) == n {
+            return Some(MailNo(i));
         }
     }
-    Found::Missing
+    None
 }

@@ -1,37 +1,27 @@
 // Each agent, with the agent that its phase names, and with the lock.
-ghost use Rattle.std.specs.Prelude.{◌≡◌, ◌≤◌};
-ghost use Rattle.records.specs.Limits.{most_agents};
-ghost use Rattle.rules.specs.Tests.{agents_fine};
+ghost use Rattle.std.specs.Prelude.{◌≡◌};
+ghost use Rattle.records.specs.Places.{all_below};
+ghost use Rattle.rules.specs.Holding.{lock_of};
+ghost use Rattle.rules.specs.Tests.{agent_fine};
 
-use crate::places::agent_place;
-use agent_checks::{agent_fine, is_empty_agent};
-use records::agents::peer_of;
-use records::flags::both;
-use records::limits::AGENT_ROOM;
-use records::{Agent, AgentNo, Lock};
+use records::AgentNo;
+use records::agents::empty_agent;
+use records::places::get_or;
+use rules::State;
 
-// Each agent, and then the room past them.
-pub(crate) fn agents_fine(sites: u32, agents: u32, lock: Lock, agent: [Agent; AGENT_ROOM]) -> bool
-    requires { agents ≤ most_agents }
-    ensures { result ≡ agents_fine sites agents lock agent }
+// Agent i, with the one that its phase names.
+#[tactic(auto, unfolding(rules::specs::Tests::agent_fine))]
+fn fine_at(t: &State, i: u32) -> bool
+    ensures { result ≡ agent_fine t.now.sites t.now.agents (lock_of t.now) t.now.agent i }
 {
-    let mut fine = true;
-    let mut i: u32 = 0;
-    while i < agents {
-        let one = agent[i as usize];
-        let phase = one.phase;
-        let place = agent_place(peer_of(phase));
-        let other = agent[place];
-        let test = agent_fine(sites, agents, lock, AgentNo(i), one, other);
-        fine = both(test, fine);
-        i += 1;
-    }
-    let mut empty = true;
-    let mut j = agents as usize;
-    while j < AGENT_ROOM {
-        let past = agent[j];
-        empty = both(empty, is_empty_agent(past));
-        j += 1;
-    }
-    both(fine, empty)
+    let one = get_or(&t.agent, i, empty_agent());
+    let other = get_or(&t.agent, one.phase.peer().0, empty_agent());
+    agent_checks::agent_fine(t.sites, t.agents, t.lock, AgentNo(i), one, other)
+}
+
+// Each agent that is there.
+pub(crate) fn each_fine(t: &State) -> bool
+    ensures { result ≡ all_below t.now.agents (agent_fine t.now.sites t.now.agents (lock_of t.now) t.now.agent) }
+{
+    (0..t.agents).all(|i| fine_at(t, i))
 }

@@ -1,60 +1,35 @@
 // Each message, with its sender, its addressee and the lock.
-ghost use Rattle.std.specs.Prelude.{◌≡◌, ◌≤◌};
-ghost use Rattle.records.specs.Limits.{most_agents, most_messages};
-ghost use Rattle.rules.specs.Tests.{messages_fine};
+ghost use Rattle.std.specs.Prelude.{◌≡◌, ◌≤◌, ◌<◌};
+ghost use Rattle.records.specs.Limits.{most_messages};
+ghost use Rattle.records.specs.Places.{all_below};
+ghost use Rattle.rules.specs.Holding.{lock_of};
+ghost use Rattle.rules.specs.Tests.{message_fine};
 
-use crate::places::agent_place;
 use message_checks::{parties_fine, status_right};
-use records::flags::both;
-use records::limits::{AGENT_ROOM, MESSAGE_ROOM};
-use records::{Agent, AgentNo, Lock, MailNo, Stand};
+use records::MailNo;
+use records::agents::empty_agent;
+use records::places::get_or;
+use rules::State;
 
-// Each message, and then the room past them among senders and addressees. The first loop is left at the first message that is not
-// right: there are many tests, and a table nearly always passes them all.
-pub(crate) fn messages_fine(
-    agents: u32,
-    messages: u32,
-    lock: Lock,
-    agent: [Agent; AGENT_ROOM],
-    sender: [AgentNo; MESSAGE_ROOM],
-    addressee: [AgentNo; MESSAGE_ROOM],
-    status: [Stand; MESSAGE_ROOM],
-) -> bool
-    requires { (agents ≤ most_agents) × (messages ≤ most_messages) }
-    ensures { result ≡ messages_fine agents messages lock agent sender addressee status }
+// Message i, with its sender and its addressee. It is read by index, which is quicker than with a test of the place.
+#[tactic(auto, unfolding(rules::specs::Tests::message_fine))]
+fn fine_at(t: &State, i: u32) -> bool
+    requires { i < most_messages }
+    ensures { result ≡ message_fine t.now.agents (lock_of t.now) t.now.agent t.now.sender t.now.addressee t.now.status i }
 {
-    let mut i: u32 = 0;
-    while i < messages {
-        let at = i as usize;
-        let a = sender[at];
-        let b = addressee[at];
-        let stand = status[at];
-        let s = stand.status;
-        let from_place = agent_place(a);
-        let to_place = agent_place(b);
-        let from = agent[from_place];
-        let to = agent[to_place];
-        if !parties_fine(agents, a, b, from) {
-            return false;
-        }
-        if !status_right(lock, MailNo(i), to, s) {
-            return false;
-        }
-        i += 1;
-    }
-    let mut senders = true;
-    let mut j = messages as usize;
-    while j < MESSAGE_ROOM {
-        let past = sender[j];
-        senders = both(senders, past.0 == 0);
-        j += 1;
-    }
-    let mut addressees = true;
-    let mut k = messages as usize;
-    while k < MESSAGE_ROOM {
-        let past = addressee[k];
-        addressees = both(addressees, past.0 == 0);
-        k += 1;
-    }
-    both(senders, addressees)
+    let at = i as usize;
+    let a = t.sender[at];
+    let b = t.addressee[at];
+    let status = t.status[at];
+    let from = get_or(&t.agent, a.0, empty_agent());
+    let to = get_or(&t.agent, b.0, empty_agent());
+    parties_fine(t.agents, a, b, from) && status_right(t.lock, MailNo(i), to, status)
+}
+
+// Each message that is there.
+pub(crate) fn each_fine(t: &State) -> bool
+    requires { t.now.messages ≤ most_messages }
+    ensures { result ≡ all_below t.now.messages (message_fine t.now.agents (lock_of t.now) t.now.agent t.now.sender t.now.addressee t.now.status) }
+{
+    (0..t.messages).all(|i| fine_at(t, i))
 }

@@ -1,21 +1,67 @@
-// The room past the values holds the empty filling. That of every other array is tested where the array is read, so that no array is
-// handed on more often than it has to be; every such loop has one array and is not left early, so that it can run in wide registers.
-ghost use Rattle.std.specs.Prelude.{◌≡◌};
-ghost use Rattle.rules.specs.Tests.{number_room};
+// The room past a count holds the empty filling. The test goes through all of the room: a loop that is not left early can run in wide
+// registers.
+ghost use Rattle.std.specs.Prelude.{◌≡◌, Bool, drop, eqb};
+ghost use Rattle.records.specs.Agents.{is_empty_agent};
+ghost use Rattle.records.specs.Messages.{is_queued};
+ghost use Rattle.records.specs.Places.{all_of};
 
-use records::flags::both;
-use records::limits::MESSAGE_ROOM;
+use records::{Agent, AgentNo, MailNo, Status};
 
-// Tells whether the room past n holds zeros only.
-pub(crate) fn number_room(n: u32, number: [u32; MESSAGE_ROOM]) -> bool
-    ensures { result ≡ number_room n number }
-{
-    let mut fine = true;
-    let mut i = n as usize;
-    while i < MESSAGE_ROOM {
-        let one = number[i];
-        fine = both(fine, one == 0);
-        i += 1;
+// What an array of the table holds, and its empty filling.
+pub(crate) trait Filled: Copy {
+    ghost is_empty: { Self → Bool };
+
+    // Tells whether this is the empty filling.
+    fn is_empty(self) -> bool
+        ensures { result ≡ is_empty self };
+}
+
+impl Filled for Agent {
+    ghost is_empty = { is_empty_agent };
+
+    fn is_empty(self) -> bool {
+        agent_checks::is_empty_agent(self)
     }
-    fine
+}
+
+impl Filled for AgentNo {
+    ghost is_empty = { λ a. eqb a.0 0 };
+
+    fn is_empty(self) -> bool {
+        self == AgentNo(0)
+    }
+}
+
+impl Filled for MailNo {
+    ghost is_empty = { λ m. eqb m.0 0 };
+
+    fn is_empty(self) -> bool {
+        self == MailNo(0)
+    }
+}
+
+impl Filled for u32 {
+    ghost is_empty = { λ x. eqb x 0 };
+
+    fn is_empty(self) -> bool {
+        self == 0
+    }
+}
+
+impl Filled for Status {
+    ghost is_empty = { is_queued };
+
+    fn is_empty(self) -> bool {
+        self.is_queued()
+    }
+}
+
+// Tells whether xs holds the empty filling from a place on.
+pub(crate) fn rest_is_empty<T: Filled>(xs: &[T], from: u32) -> bool
+    ensures { result ≡ all_of T.is_empty (drop from xs.now) }
+{
+    match xs.get(from as usize..) {
+        Some(rest) => rest.iter().fold(true, |empty, x| empty & x.is_empty()),
+        None => true,
+    }
 }

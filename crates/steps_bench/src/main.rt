@@ -2,8 +2,9 @@
 // five steps. Output: the code of one more settle, which is out of turn.
 #![tactic(auto)]
 
+ghost use Rattle.std.specs.Prelude.{◌<◌};
+
 use reads::read_full;
-use records::codes::code_number;
 use records::{AgentNo, SiteNo};
 use std::io;
 use table::Table;
@@ -26,9 +27,11 @@ fn rounds(first: Table, n: u32) -> Table {
     t
 }
 
-// The value of a digit's byte.
-fn digit_of(b: u8) -> u32 {
-    (b as u32 + 2) % 10
+// The value of a digit's byte, and 0 for any other byte.
+fn digit_of(b: u8) -> u32
+    ensures { result < 10 }
+{
+    char::from(b).to_digit(10).unwrap_or(0)
 }
 
 // Takes as many rounds as standard input asks for.
@@ -40,10 +43,7 @@ fn main(rt: HostRuntime) -> io::Result<()> {
         let peopled = full_tables::with_agents(t, Table::MOST_AGENTS);
         t = full_tables::with_messages(peopled, Table::MOST_MESSAGES);
     }
-    let digit = digit_of(input[1]) % 10;
-    t = rounds(t, digit * 20000);
+    t = rounds(t, digit_of(input[1]) * 20000);
     let last = t.settle(AgentNo(0));
-    let code = last.code;
-    let shown = code_number(code);
-    println!(rt; "{shown}")
+    println!(rt; "{}", u32::from(last.code))
 }

@@ -7,8 +7,10 @@ ghost use Rattle.rules.specs.SoundTest.{sound_test};
 ghost use Rattle.table.specs.Face.{no_table, answer_of, open_table, step_table};
 ghost use Rattle.text.specs.Writing.{write_of};
 
-use records::{AgentNo, Code, MailNo, SiteNo, limits};
-use rules::{AgentRead, ItemRead, MessageRead, Reply, State, Step};
+use parts::reply;
+use records::{Agent, AgentNo, Code, Item, MailNo, Message, SiteNo, limits};
+use rules::{Reply, State, Step};
+use steps::take;
 use text::Written;
 
 #[derive(Clone, Copy)]
@@ -16,7 +18,8 @@ pub struct Table {
     pub state: State,
 }
 
-// What every step hands back: the table as it now stands, a code, and a number that is 0 where the rules name none.
+// What every step hands back: the table as it now stands, a code, and a number that is 0 where the rules name none. `step_table` answers
+// this record, and README names its fields.
 #[derive(Clone, Copy)]
 pub struct Answer {
     pub table: Table,
@@ -24,16 +27,16 @@ pub struct Answer {
     pub number: u32,
 }
 
-// Hands back what the rules reply.
-fn answer_of(r: Reply) -> Answer
-    ensures { result ≡ answer_of r }
-{
-    let state = r.state;
-    let code = r.code;
-    Answer {
-        table: Table { state: state },
-        code: code,
-        number: r.number,
+impl From<Reply> for Answer {
+    ghost from_gives = { λ r answer. answer ≡ answer_of r };
+
+    // Hands back what the rules reply.
+    fn from(r: Reply) -> Answer {
+        Answer {
+            table: Table { state: r.state },
+            code: r.code,
+            number: r.number,
+        }
     }
 }
 
@@ -48,163 +51,140 @@ impl Table {
     pub fn none() -> Table
         ensures { result ≡ no_table }
     {
-        let state = parts::none();
-        Table { state: state }
+        Table {
+            state: parts::none(),
+        }
     }
 
     // Opens a table of so many sites, with agent 0 free at site 0 and mapped there; refused where the count is 0 or above 16.
+    #[tactic(auto, unfolding(crate::specs::Face::open_table))]
     pub fn open(sites: u32) -> Answer
         ensures { result ≡ open_table sites }
     {
-        answer_of(parts::opening(sites))
+        Answer::from(parts::opening(sites))
     }
 
     // Tells whether the table is sound.
     pub fn is_sound(self) -> bool
         ensures { result ≡ sound_test self.state }
     {
-        let state = self.state;
-        parts::is_sound(state)
+        soundness::is_sound(&self.state)
     }
+
+    // The twelve steps stand here by name, as README shows them to a host.
 
     // A new agent at the site of a, which is then spawning. The number is the child's.
     pub fn spawn(mut self, a: AgentNo) -> Answer
         ensures { result ≡ step_table self (Step.Spawn a) }
     {
-        let state = self.state;
-        answer_of(creations::spawn(state, a))
+        self.step(Step::Spawn(a))
     }
 
     // A free agent a asks to move to u.
     pub fn ask(mut self, a: AgentNo, u: SiteNo) -> Answer
         ensures { result ≡ step_table self (Step.Ask a u) }
     {
-        let state = self.state;
-        answer_of(moves::ask(state, a, u))
+        self.step(Step::Ask(a, u))
     }
 
     // Takes the message that a numbers n, to b with the value v. The number is the message's.
     pub fn send(mut self, a: AgentNo, n: u32, b: AgentNo, v: u32) -> Answer
         ensures { result ≡ step_table self (Step.Send a n b v) }
     {
-        let state = self.state;
-        answer_of(sending::send(state, a, n, b, v))
+        self.step(Step::Send(a, n, b, v))
     }
 
     // The server learns of a born agent b.
     pub fn enrol(mut self, b: AgentNo) -> Answer
         ensures { result ≡ step_table self (Step.Enrol b) }
     {
-        let state = self.state;
-        answer_of(creations::enrol(state, b))
+        self.step(Step::Enrol(b))
     }
 
     // An enrolled agent b and its parent become free.
     pub fn greet(mut self, b: AgentNo) -> Answer
         ensures { result ≡ step_table self (Step.Greet b) }
     {
-        let state = self.state;
-        answer_of(creations::greet(state, b))
+        self.step(Step::Greet(b))
     }
 
     // Takes the lock for the move of an asking agent a.
     pub fn grant(mut self, a: AgentNo) -> Answer
         ensures { result ≡ step_table self (Step.Grant a) }
     {
-        let state = self.state;
-        answer_of(leaps::grant(state, a))
+        self.step(Step::Grant(a))
     }
 
     // A granted agent a goes to its target.
     pub fn leap(mut self, a: AgentNo) -> Answer
         ensures { result ≡ step_table self (Step.Leap a) }
     {
-        let state = self.state;
-        answer_of(leaps::leap(state, a))
+        self.step(Step::Leap(a))
     }
 
     // The server learns where a landed agent a is, and frees the lock.
     pub fn book(mut self, a: AgentNo) -> Answer
         ensures { result ≡ step_table self (Step.Book a) }
     {
-        let state = self.state;
-        answer_of(leaps::book(state, a))
+        self.step(Step::Book(a))
     }
 
     // A booked agent a becomes free.
     pub fn settle(mut self, a: AgentNo) -> Answer
         ensures { result ≡ step_table self (Step.Settle a) }
     {
-        let state = self.state;
-        answer_of(moves::settle(state, a))
+        self.step(Step::Settle(a))
     }
 
     // Sends a queued message m out to its addressee's site, with the lock held for it.
     pub fn forward(mut self, m: MailNo) -> Answer
         ensures { result ≡ step_table self (Step.Forward m) }
     {
-        let state = self.state;
-        answer_of(deliveries::forward(state, m))
+        self.step(Step::Forward(m))
     }
 
     // An out message m reaches its site.
     pub fn hand(mut self, m: MailNo) -> Answer
         ensures { result ≡ step_table self (Step.Hand m) }
     {
-        let state = self.state;
-        answer_of(deliveries::hand(state, m))
+        self.step(Step::Hand(m))
     }
 
     // A handed message m is over, and the lock is free.
     pub fn close(mut self, m: MailNo) -> Answer
         ensures { result ≡ step_table self (Step.Close m) }
     {
-        let state = self.state;
-        answer_of(deliveries::close(state, m))
+        self.step(Step::Close(m))
     }
 
-    // Takes a step by its method.
+    // Takes a step.
+    #[tactic(auto, unfolding(crate::specs::Face::step_table))]
     pub fn step(mut self, step: Step) -> Answer
         ensures { result ≡ step_table self step }
     {
-        match step {
-            Step::Spawn(a) => self.spawn(a),
-            Step::Ask(a, u) => self.ask(a, u),
-            Step::Send(a, n, b, v) => self.send(a, n, b, v),
-            Step::Enrol(b) => self.enrol(b),
-            Step::Greet(b) => self.greet(b),
-            Step::Grant(a) => self.grant(a),
-            Step::Leap(a) => self.leap(a),
-            Step::Book(a) => self.book(a),
-            Step::Settle(a) => self.settle(a),
-            Step::Forward(m) => self.forward(m),
-            Step::Hand(m) => self.hand(m),
-            Step::Close(m) => self.close(m),
-        }
+        let taken = take(&mut self.state, step);
+        Answer::from(reply(self.state, taken))
     }
 
     // Reads the agent a.
-    pub fn agent_at(self, a: AgentNo) -> AgentRead
+    pub fn agent_at(self, a: AgentNo) -> Option<Agent>
         ensures { result ≡ read_agent self.state a }
     {
-        let state = self.state;
-        readers::agent_at(state, a)
+        readers::agent_at(&self.state, a)
     }
 
     // Reads the message m.
-    pub fn message_at(self, m: MailNo) -> MessageRead
+    pub fn message_at(self, m: MailNo) -> Option<Message>
         ensures { result ≡ read_message self.state m }
     {
-        let state = self.state;
-        readers::message_at(state, m)
+        readers::message_at(&self.state, m)
     }
 
     // Reads the entry at a place of a's inbox, counted from 0 in the order of handing.
-    pub fn inbox_at(self, a: AgentNo, place: u32) -> ItemRead
+    pub fn inbox_at(self, a: AgentNo, place: u32) -> Option<Item>
         ensures { result ≡ read_inbox self.state a place }
     {
-        let state = self.state;
-        readers::inbox_at(state, a, place)
+        readers::inbox_at(&self.state, a, place)
     }
 
     // Writes the table's text at the front of buf and answers its length. Refused where the table is not sound, and then where the text
@@ -212,7 +192,6 @@ impl Table {
     pub fn write(self, buf: &mut [u8]) -> Written
         ensures { (result ≡ (write_of self.state buf.old).answer) × (buf.new ≡ (write_of self.state buf.old).buffer) }
     {
-        let state = self.state;
-        written::write(state, buf)
+        written::write(self.state, buf)
     }
 }

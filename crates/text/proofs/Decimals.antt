@@ -1,16 +1,11 @@
 -- Laws of decimal digits.
-use Prim.Native.Nat.{ℕ, zero, suc, ◌+◌, ◌*◌, ◌-◌, ◌/◌, ◌%◌, ◌^◌, ◌≤◌, ◌<◌}
-use mathlib.Core.Path.{◌≡◌, refl, sym, ap, ◌∙◌}
-use mathlib.Core.Bool.{Bool, true, false, cond}
-use mathlib.Core.Logic.{◌⊎◌, inl, inr, ⊎_elim}
-use mathlib.Core.List.{List, [], ◌∷◌, ◌++◌}
-use native.Mathlib.Nat.{div-add-mod, mod-lt, div-lt_iff_lt-mul, pow-suc}
-use native.Mathlib.Omega.{arith}
-use lib.ListN.{length, length-append, get_or, get_or-append}
-use lib.Dec.{ltb}
-use borrow.Author.Tests.{lt-ltb, le-ltb, ltb-true, ltb-false}
+use Rattle.std.proofs.Common.{All, ℕ, zero, suc, ◌+◌, ◌*◌, ◌-◌, ◌/◌, ◌%◌, ◌^◌, ◌≤◌, ◌<◌, ◌≡◌, refl, sym, ap, ◌∙◌, cond}
+use Rattle.std.proofs.Common.{⊎_elim, List, [], ◌∷◌, ◌++◌, mod-lt, div-lt_iff_lt-mul, pow-suc, arith, length, length-append, get_or, ltb, lt-ltb, le-ltb}
+use Rattle.std.proofs.Math.ListN.{get_or-append}
+use Rattle.std.proofs.Math.Nat.{div-add-mod}
+use Rattle.std.proofs.lemmas.Bool.{cases_lt}
+use Rattle.std.proofs.lemmas.List.Elements.{All-nil, All-push}
 use Rattle.text.specs.Decimal.{digit, digits_of, decimal}
-use Rattle.text.proofs.Each.{Each, none, more, each_append}
 
 tens-fewer : (n k : ℕ) → n ≤ suc k → n / 10 ≤ k
 tens-fewer n k h = omega (arith, div-add-mod n 10)
@@ -37,19 +32,12 @@ decimal-tens (suc n) h =
     rw (le-ltb (suc n) 10 h)
     (ap (λ (l : List ℕ). l ++ (digit (suc n % 10) ∷ [])) (digits-bound n (suc n / 10) (suc n / 10) (tens-fewer (suc n) n (omega arith)) (omega arith)))
 
--- a number is below ten, or has tens
-one-digit-or-tens : (n : ℕ) → (n < 10) ⊎ (10 ≤ n)
-one-digit-or-tens n = by (ltb n 10) refl where
-  by : (b : Bool) → ltb n 10 ≡ b → (n < 10) ⊎ (10 ≤ n)
-  by true e = inl (ltb-true n 10 e)
-  by false e = inr (ltb-false n 10 e)
-
 -- What holds below ten, and of a number where it holds of its tens, holds of every number.
 by-tens : (P : ℕ → Type 0) → ((n : ℕ) → n < 10 → P n) → ((n : ℕ) → 10 ≤ n → P (n / 10) → P n) → (n : ℕ) → P n
 by-tens P ones tens n = below n n (omega arith) where
   below : (k n : ℕ) → n ≤ k → P n
   below zero n h = ones n (omega arith)
-  below (suc k) n h = ⊎_elim (ones n) (λ g. tens n g (below k (n / 10) (tens-fewer n k h))) (one-digit-or-tens n)
+  below (suc k) n h = ⊎_elim (ones n) (λ g. tens n g (below k (n / 10) (tens-fewer n k h))) (cases_lt n 10)
 
 -- a number below a power of ten has at most so many digits
 pub decimal-length : (k n : ℕ) → n < 10 ^ suc k → length (decimal n) ≤ suc k
@@ -58,7 +46,7 @@ decimal-length (suc k) n h =
     ⊎_elim
     (λ g. rw (decimal-ones n g) (omega arith))
     (λ g. rw (decimal-tens n g, length-append) (omega (arith, decimal-length k (n / 10) ((div-lt_iff_lt-mul (omega arith)).1 (rw (pow-suc 10 (suc k)) at h)))))
-    (one-digit-or-tens n)
+    (cases_lt n 10)
 
 pub decimal-at-most-ten : (n : ℕ) → n < 2 ^ 32 → length (decimal n) ≤ 10
 decimal-at-most-ten n h = decimal-length 9 n (omega arith)
@@ -70,12 +58,12 @@ decimal-some = by-tens (λ n. 1 ≤ length (decimal n)) (λ n h. rw (decimal-one
 abbrev pub IsDigit : ℕ → Type 0
 IsDigit b = (48 ≤ b) × (b ≤ 57)
 
-pub decimal-digits : (n : ℕ) → Each IsDigit (decimal n)
+pub decimal-digits : (n : ℕ) → All IsDigit (decimal n)
 decimal-digits =
     by-tens
-    (λ n. Each IsDigit (decimal n))
-    (λ n h. rw (decimal-ones n h) (more {a = digit n} (omega arith) none))
-    (λ n h s. rw (decimal-tens n h) (each_append s (more {a = digit (n % 10)} (omega (arith, mod-lt n {m = 10} (omega arith))) none)))
+    (λ n. All IsDigit (decimal n))
+    (λ n h. rw (decimal-ones n h) (All-push IsDigit [] (digit n) (All-nil IsDigit) (omega arith)))
+    (λ n h s. rw (decimal-tens n h) (All-push IsDigit (decimal (n / 10)) (digit (n % 10)) s (omega (arith, mod-lt n {m = 10} (omega arith)))))
 
 -- the number that digits say, after those of a number before them
 unfoldable pub read_after : ℕ → List ℕ → ℕ

@@ -1,18 +1,14 @@
 -- Different sound tables have different texts: a text says every count, the lock, each agent, each message and each entry of the log,
 -- and the room past the counts is empty in every sound table.
-use Prim.Native.Nat.{ℕ, ◌<◌, ◌≤◌}
-use mathlib.Core.Path.{◌≡◌, refl, sym, ap, ◌∙◌}
-use mathlib.Core.Bool.{Bool, true, false}
-use mathlib.Core.List.{List, [], ◌∷◌, ◌++◌, append-nil, head-eq_of_cons-eq}
-use lib.Dec.{ltb}
-use lib.Seq.{ext_get_or}
-use borrow.Author.Tests.{ltb-true, ltb-false}
+use Rattle.std.proofs.Common.{⊎_elim, ℕ, ◌<◌, ◌≤◌, ◌≡◌, sym, ap, ◌∙◌, List, [], ◌∷◌, ◌++◌, append-nil, ext_get_or}
+use mathlib.Core.List.{head-eq_of_cons-eq}
+use Rattle.std.proofs.lemmas.Bool.{cases_lt}
 use Rattle.records.specs.declared.Agent.{Agent}
 use Rattle.records.specs.declared.Message.{Message}
 use Rattle.records.specs.declared.Status.TheVariants.{Queued}
 use Rattle.records.specs.Numbers.{agent_no, mail_no}
 use Rattle.records.specs.Agents.{empty_agent}
-use Rattle.records.specs.Messages.{standing, empty_entry}
+use Rattle.records.specs.Messages.{empty_entry}
 use Rattle.records.specs.Places.{all_of}
 use Rattle.rules.specs.declared.State.{State}
 use Rattle.rules.specs.Holding.{Shaped, agent_at, message_at, lock_of, log_at}
@@ -174,10 +170,7 @@ text_says t u e =
 
 -- what holds below a number and past it holds everywhere
 everywhere : (n : ℕ) (P : ℕ → Type 0) → ((i : ℕ) → i < n → P i) → ((i : ℕ) → n ≤ i → P i) → (i : ℕ) → P i
-everywhere n P below past i = by (ltb i n) refl where
-  by : (b : Bool) → ltb i n ≡ b → P i
-  by true e = below i (ltb-true i n e)
-  by false e = past i (ltb-false i n e)
+everywhere n P below past i = ⊎_elim (below i) (past i) (cases_lt i n)
 
 -- two tables whose texts and whose empty room agree
 same-table : (t u : State) → Shaped t → Shaped u → RoomEmpty t → RoomEmpty u → SameText t u → t ≡ u
@@ -202,14 +195,14 @@ same-table t u a b r s same =
     let number = ext_get_or 0 t.number u.number (a.number ∙ sym b.number) (λ i h. ap (λ (x : Message). x.number) (mail i)) in
     let addressee = ext_get_or (agent_no 0) t.addressee u.addressee (a.addressee ∙ sym b.addressee) (λ i h. ap (λ (x : Message). x.addressee) (mail i)) in
     let value = ext_get_or 0 t.value u.value (a.value ∙ sym b.value) (λ i h. ap (λ (x : Message). x.value) (mail i)) in
-    let status = ext_get_or (standing Queued) t.status u.status (a.status ∙ sym b.status) (λ i h. ap (λ (x : Message). standing x.status) (mail i)) in
+    let status = ext_get_or Queued t.status u.status (a.status ∙ sym b.status) (λ i h. ap (λ (x : Message). x.status) (mail i)) in
     let log = ext_get_or empty_entry t.log u.log (a.log ∙ sym b.log) (λ i h. entries i) in
     λ i. record {
       sites = same.sites i;
       agents = same.agents i;
       messages = same.messages i;
       handed = same.handed i;
-      held = record { lock = same.lock i };
+      lock = same.lock i;
       agent = agent i;
       sender = sender i;
       number = number i;

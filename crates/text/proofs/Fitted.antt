@@ -1,12 +1,7 @@
 -- Laws of a writing: a text that is too long is refused, and one that fits stands at the buffer's front.
-use Prim.Native.Nat.{ℕ, ◌≤◌, ◌<◌}
-use mathlib.Core.Path.{◌≡◌, ap, ◌∙◌}
-use mathlib.Core.List.{List, ◌++◌}
-use native.Mathlib.Nat.{zero-add}
-use native.Mathlib.Omega.{arith}
-use lib.ListN.{length, drop}
-use lib.Seq.{sets-eq}
-use borrow.Author.Tests.{le-leb, lt-leb}
+use Rattle.std.proofs.Common.{ℕ, ◌≤◌, ◌<◌, ◌≡◌, ap, ◌∙◌, List, ◌++◌, zero-add, arith, length, drop, le-leb}
+use Rattle.std.proofs.lemmas.Bool.{lt-leb}
+use Rattle.std.proofs.lemmas.List.Edits.{sets-eq}
 use Rattle.records.specs.declared.Code.TheVariants.{NoRoom}
 use Rattle.rules.specs.declared.State.{State}
 use Rattle.text.specs.Text.{written}

@@ -1,5 +1,4 @@
 pub mod Placing
-pub mod Each
 pub mod Decimals
 pub mod RowParts
 pub mod Fitted

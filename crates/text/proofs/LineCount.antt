@@ -1,15 +1,10 @@
 -- The text has as many lines as the counts say: five, and one for each agent, each message and each entry of the log.
-use Prim.Native.Nat.{ℕ, zero, suc, ◌+◌}
-use mathlib.Core.Path.{◌≡◌, refl, sym, ap, ◌∙◌}
-use mathlib.Core.Bool.{true, false, cond, false≢true}
-use mathlib.Core.List.{List, [], ◌∷◌, ◌++◌}
-use native.Mathlib.Omega.{arith}
-use lib.Dec.{eqb}
-use borrow.Author.Tests.{ne_eqb}
+use Rattle.std.proofs.Common.{ℕ, zero, suc, ◌+◌, ◌≡◌, refl, sym, ap, ◌∙◌, true, false, cond, List, [], ◌∷◌, ◌++◌, arith, eqb, ne_eqb}
+use Rattle.std.proofs.lemmas.Bool.{false≢true, and_parts}
+use Rattle.records.specs.declared.Status.{Status}
 use Rattle.records.specs.declared.Agent.{Agent}
 use Rattle.records.specs.declared.AgentNo.{AgentNo}
 use Rattle.records.specs.declared.MailNo.{MailNo}
-use Rattle.records.specs.declared.Stand.{Stand}
 use Rattle.records.specs.Numbers.{agent_no, mail_no}
 use Rattle.records.specs.Places.{all_of}
 use Rattle.rules.specs.Tests.{agent_in, message_in, entry_in}
@@ -17,8 +12,7 @@ use Rattle.rules.specs.declared.State.{State}
 use Rattle.rules.specs.Holding.{lock_of}
 use Rattle.text.specs.Decimal.{decimal, bytes}
 use Rattle.text.specs.Text.{fields, line, row, rows_below, lock_text, agent_text, message_text, written}
-use Rattle.text.specs.Rows.{lock_line, count_lines, agent_row, message_row, log_row}
-use Rattle.records.proofs.FlagLaws.{and_left, and_right}
+use Rattle.text.specs.Rows.{lock_line, count_lines, agent_row, message_row, log_row, agent_rows, message_rows, log_rows}
 use Rattle.text.proofs.RowParts.{table-parts}
 use Rattle.text.proofs.Plain.{is_plain, Plain, AllPlain, decimal-plain, lock-plain, agent_fields, message_fields, agent-plain, message-plain}
 
@@ -40,19 +34,19 @@ plain-ends : (x : List ℕ) → Plain x → line_ends x ≡ 0
 unfolding line_ends all_of
 plain-ends [] e = refl
 plain-ends (b ∷ x) e =
-    rw (plain-no-end b (and_left (is_plain b) (all_of is_plain x) e)) (omega (arith, plain-ends x (and_right (is_plain b) (all_of is_plain x) e)))
+    rw (plain-no-end b (and_parts _ _ e).0) (omega (arith, plain-ends x (and_parts _ _ e).1))
 
 -- nor have plain fields
 fields-ends : (xs : List (List ℕ)) → AllPlain xs → line_ends (fields xs) ≡ 0
 unfolding line_ends all_of fields
 fields-ends [] e = refl
-fields-ends (x ∷ []) e = plain-ends x (and_left (all_of is_plain x) true e)
+fields-ends (x ∷ []) e = plain-ends x (and_parts _ _ e).0
 fields-ends (x ∷ y ∷ rest) e =
     ends-append x (44 ∷ fields (y ∷ rest))
     ∙ omega (
       arith,
-      plain-ends x (and_left (all_of is_plain x) (all_of (all_of is_plain) (y ∷ rest)) e),
-      fields-ends (y ∷ rest) (and_right (all_of is_plain x) (all_of (all_of is_plain) (y ∷ rest)) e),
+      plain-ends x (and_parts _ _ e).0,
+      fields-ends (y ∷ rest) (and_parts _ _ e).1,
     )
 
 -- a line has one
@@ -107,7 +101,7 @@ agent-row-ends agent i =
     let x = agent_in agent (agent_no i) in
     row_ends (bytes "agent") i (fields (agent_fields x)) refl (fields-ends (agent_fields x) (agent-plain x))
 
-message-row-ends : (sender : List AgentNo) (number : List ℕ) (addressee : List AgentNo) (value : List ℕ) (status : List Stand) (i : ℕ)
+message-row-ends : (sender : List AgentNo) (number : List ℕ) (addressee : List AgentNo) (value : List ℕ) (status : List Status) (i : ℕ)
     → line_ends (message_row sender number addressee value status i) ≡ 1
 unfolding all_of message_text
 message-row-ends sender number addressee value status i =
@@ -124,9 +118,9 @@ unfolding all_of
 text-lines t =
     let counts = count_lines t.sites t.agents t.messages t.handed in
     let lock = lock_line (lock_of t) in
-    let agents = rows_below t.agents (agent_row t.agent) in
-    let messages = rows_below t.messages (message_row t.sender t.number t.addressee t.value t.status) in
-    let log = rows_below t.handed (log_row t.log) in
+    let agents = agent_rows t in
+    let messages = message_rows t in
+    let log = log_rows t in
     ap line_ends (sym (table-parts t))
     ∙ omega (
       arith,

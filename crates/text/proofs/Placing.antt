@@ -1,12 +1,8 @@
 -- Laws of texts put one after another.
-use Prim.Native.Nat.{ℕ, suc, ◌+◌, ◌<◌, ◌≤◌}
-use mathlib.Core.Path.{◌≡◌, refl, sym, ap, ◌∙◌}
-use mathlib.Core.List.{List, [], ◌∷◌, ◌++◌}
-use native.Mathlib.Nat.{add-zero, zero-add, add-suc, suc-add}
-use native.Mathlib.Omega.{arith}
-use lib.ListN.{length, length-append, set, take, drop}
-use lib.Seq.{sets, set_out, length-sets, sets-eq, take-append_seam}
-use borrow.Author.Tests.{le-leb, lt-leb}
+use Rattle.std.proofs.Common.{ℕ, suc, ◌+◌, ◌<◌, ◌≤◌, ◌≡◌, refl, sym, ap, ◌∙◌, List, [], ◌∷◌, ◌++◌, add-zero, zero-add, add-suc, suc-add, arith, length, length-append, set, take, drop, le-leb}
+use Rattle.std.proofs.Math.Seq.{set_out, length-sets, take-append_seam}
+use Rattle.std.proofs.lemmas.Bool.{lt-leb}
+use Rattle.std.proofs.lemmas.List.Edits.{sets, sets-eq}
 use Rattle.text.specs.Placing.{Put, place_after}
 
 pub sets_then : (x y l : List ℕ) (i : ℕ) → sets (sets l i x) (i + length x) y ≡ sets l i (x ++ y)
@@ -14,10 +10,6 @@ sets_then [] y l i = rw add-zero
 sets_then (a ∷ x) y l i =
     ap (λ (k : ℕ). sets (sets (set l i a) (suc i) x) k y) (add-suc i (length x) ∙ sym (suc-add i (length x)))
     ∙ sets_then x y (set l i a) (suc i)
-
--- no text
-pub put-none : (b : List ℕ) (p : ℕ) → Put [] b b p p
-put-none b p = record { place = sym (add-zero p); held = refl }
 
 -- one text, and then another where it ended
 pub put_then : {x y b₀ b₁ b₂ : List ℕ} {p₀ p₁ p₂ : ℕ} → Put x b₀ b₁ p₀ p₁ → Put y b₁ b₂ p₁ p₂ → Put (x ++ y) b₀ b₂ p₀ p₂
@@ -66,8 +58,3 @@ put_front {x} {b₀} {b₁} {p} h q =
     ap (λ (k : ℕ). take k b₁) n
     ∙ ap (take (length x)) (q.held ∙ sets-eq x b₀ 0 (rw zero-add h))
     ∙ take-append_seam x (drop (0 + length x) b₀)
-
--- the text of a value that is known to be another
-pub put_of : {A : Type 0} (text : A → List ℕ) {x y : A} {b₀ b₁ : List ℕ} {p₀ p₁ : ℕ}
-    → x ≡ y → Put (text y) b₀ b₁ p₀ p₁ → Put (text x) b₀ b₁ p₀ p₁
-put_of text e = put_same (ap text (sym e))

@@ -1,25 +1,18 @@
 -- Every field of a line is of bytes that neither part fields nor end lines.
-use Prim.Native.Nat.{ℕ}
-use mathlib.Core.Path.{◌≡◌, refl}
-use mathlib.Core.Bool.{Bool, true, not, ◌&&◌}
-use mathlib.Core.List.{List, [], ◌∷◌}
-use native.Mathlib.Omega.{arith}
-use lib.Dec.{ltb, eqb}
-use borrow.Author.Tests.{lt-ltb, ne_eqb}
+use Rattle.std.proofs.Common.{All, Option, Some, None, ℕ, ◌≡◌, refl, Bool, true, not, ◌&&◌, List, [], ◌∷◌, arith, ltb, eqb, lt-ltb, ne_eqb}
+use Rattle.records.specs.declared.SiteNo.{SiteNo}
 use Rattle.records.specs.declared.Agent.{Agent}
 use Rattle.records.specs.declared.Phase.{Phase}
 use Rattle.records.specs.declared.Phase.TheVariants.{Free, Spawning, Born, Enrolled, Asking, Granted, Landed, Booked}
-use Rattle.records.specs.declared.Mapped.{Mapped}
-use Rattle.records.specs.declared.Mapped.TheVariants.{Nowhere, At}
 use Rattle.records.specs.declared.Message.{Message}
 use Rattle.records.specs.declared.Status.{Status}
 use Rattle.records.specs.declared.Status.TheVariants.{Queued, Out, Handed, Closed, Lost}
 use Rattle.records.specs.declared.Lock.{Lock}
 use Rattle.records.specs.declared.Lock.TheVariants.{Unheld, ForMove, ForMail}
 use Rattle.records.specs.Places.{all_of}
+use Rattle.std.proofs.lemmas.List.Elements.{All-head, All-tail}
 use Rattle.text.specs.Decimal.{decimal}
 use Rattle.text.specs.Text.{lock_text, phase_word, phase_number, map_text, status_word, status_site}
-use Rattle.text.proofs.Each.{Each, none, more}
 use Rattle.text.proofs.Decimals.{IsDigit, decimal-digits}
 
 -- neither a comma, a full stop, an equals sign nor byte 10
@@ -29,15 +22,16 @@ is_plain b = ltb 44 b && (not (eqb b 46) && not (eqb b 61))
 abbrev pub Plain : List ℕ → Type 0
 Plain x = all_of is_plain x ≡ true
 
-digits-plain : {x : List ℕ} → Each IsDigit x → Plain x
+digits-plain : (x : List ℕ) → All IsDigit x → Plain x
 unfolding all_of
-digits-plain none = refl
-digits-plain (more {a} h p) =
+digits-plain [] p = refl
+digits-plain (a ∷ x) p =
+    let h = All-head IsDigit a x p in
     rw (lt-ltb 44 a (omega (arith, h)), ne_eqb a 46 (λ e. omega (arith, h, e)), ne_eqb a 61 (λ e. omega (arith, h, e)))
-    (digits-plain p)
+    (digits-plain x (All-tail IsDigit a x p))
 
 pub decimal-plain : (n : ℕ) → Plain (decimal n)
-decimal-plain n = digits-plain (decimal-digits n)
+decimal-plain n = digits-plain (decimal n) (decimal-digits n)
 
 pub phase-word-plain : (p : Phase) → Plain (phase_word p)
 unfolding all_of
@@ -61,10 +55,10 @@ phase-number-plain (Granted u) = decimal-plain u.0
 phase-number-plain Landed = refl
 phase-number-plain Booked = refl
 
-pub map-plain : (m : Mapped) → Plain (map_text m)
+pub map-plain : (m : Option SiteNo) → Plain (map_text m)
 unfolding all_of
-map-plain Nowhere = refl
-map-plain (At s) = decimal-plain s.0
+map-plain None = refl
+map-plain (Some s) = decimal-plain s.0
 
 pub status-word-plain : (s : Status) → Plain (status_word s)
 unfolding all_of

@@ -1,16 +1,8 @@
 -- A phase, a map entry, a status and the lock are read back from their fields.
-use Prim.Native.Nat.{ℕ, ◌+◌, ◌≤◌}
-use mathlib.Core.Path.{◌≡◌, refl, sym, ap, ◌∙◌}
-use mathlib.Core.Bool.{false, cond}
-use mathlib.Core.List.{List}
-use native.Mathlib.Omega.{arith}
-use lib.Dec.{eqb}
-use lib.ListN.{length, get_or, drop}
-use borrow.Author.Tests.{ne_eqb}
+use Rattle.std.proofs.Common.{Option, Some, None, ℕ, ◌+◌, ◌≡◌, refl, sym, ap, ◌∙◌, false, cond, List, arith, eqb, get_or, drop, ne_eqb}
+use Rattle.records.specs.declared.SiteNo.{SiteNo}
 use Rattle.records.specs.declared.Phase.{Phase}
 use Rattle.records.specs.declared.Phase.TheVariants.{Free, Spawning, Born, Enrolled, Asking, Granted, Landed, Booked}
-use Rattle.records.specs.declared.Mapped.{Mapped}
-use Rattle.records.specs.declared.Mapped.TheVariants.{Nowhere, At}
 use Rattle.records.specs.declared.Status.{Status}
 use Rattle.records.specs.declared.Status.TheVariants.{Queued, Out, Handed, Closed, Lost}
 use Rattle.records.specs.declared.Lock.{Lock}
@@ -18,7 +10,7 @@ use Rattle.records.specs.declared.Lock.TheVariants.{Unheld, ForMove, ForMail}
 use Rattle.records.specs.Numbers.{agent_no, site_no, mail_no}
 use Rattle.text.specs.Decimal.{decimal}
 use Rattle.text.specs.Text.{lock_text, phase_word, phase_number, map_text, status_word, status_site}
-use Rattle.text.proofs.Each.{Each, none, more}
+use Rattle.std.proofs.lemmas.List.Elements.{All-get_or}
 use Rattle.text.proofs.Decimals.{IsDigit, decimal-digits, decimal-some, read_after, decimal-read}
 
 -- a phase from the third and fourth letters of its word, which differ from word to word in their sum, and its number
@@ -52,22 +44,19 @@ same-phase p q w n =
     ∙ phase-back q
 
 -- a map entry from whether it is a dash
-first-digit : {x : List ℕ} → Each IsDigit x → 1 ≤ length x → 48 ≤ get_or x 0 0
-first-digit none h = absurd (omega arith)
-first-digit (more p q) h = p.0
-
 no-dash : (n : ℕ) → eqb (get_or (decimal n) 0 0) 45 ≡ false
 no-dash n =
-    let first = first-digit (decimal-digits n) (decimal-some n) in ne_eqb (get_or (decimal n) 0 0) 45 (λ e. omega (arith, e, first))
+    let first = All-get_or IsDigit (decimal n) 0 0 (decimal-some n) (decimal-digits n) in
+    ne_eqb (get_or (decimal n) 0 0) 45 (λ e. omega (arith, e, first))
 
-abbrev map_by : List ℕ → Mapped
-map_by x = cond (eqb (get_or x 0 0) 45) Nowhere (At (site_no (read_after 0 x)))
+abbrev map_by : List ℕ → Option SiteNo
+map_by x = cond (eqb (get_or x 0 0) 45) None (Some (site_no (read_after 0 x)))
 
-map_back : (m : Mapped) → map_by (map_text m) ≡ m
-map_back Nowhere = refl
-map_back (At s) = rw (no-dash s.0, decimal-read s.0)
+map_back : (m : Option SiteNo) → map_by (map_text m) ≡ m
+map_back None = refl
+map_back (Some s) = rw (no-dash s.0, decimal-read s.0)
 
-pub same_map : (m n : Mapped) → map_text m ≡ map_text n → m ≡ n
+pub same_map : (m n : Option SiteNo) → map_text m ≡ map_text n → m ≡ n
 same_map m n e = sym (map_back m) ∙ ap map_by e ∙ map_back n
 
 -- a status from its word's first letter, and the site

@@ -1,8 +1,5 @@
 -- Laws of the soundness test in a writing.
-use Prim.Native.Nat.{ℕ}
-use mathlib.Core.Path.{◌≡◌}
-use mathlib.Core.Bool.{true, false}
-use mathlib.Core.List.{List}
+use Rattle.std.proofs.Common.{ℕ, ◌≡◌, true, false, List}
 use Rattle.records.specs.declared.Code.TheVariants.{BadState}
 use Rattle.rules.specs.declared.State.{State}
 use Rattle.rules.specs.SoundTest.{sound_test}

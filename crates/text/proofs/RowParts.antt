@@ -1,18 +1,12 @@
 -- Each row is the parts that its writer puts, one after another, and so is the line of an answer.
-use Prim.Native.Nat.{ℕ, ◌+◌, ◌≤◌}
-use mathlib.Core.Path.{◌≡◌}
-use mathlib.Core.List.{List, [], ◌∷◌, ◌++◌, append_assoc}
-use native.Mathlib.Nat.{le_antisymm}
-use native.Mathlib.Numerals.{add-one}
+use Rattle.std.proofs.Common.{ℕ, ◌≡◌, List, [], ◌∷◌, ◌++◌, append_assoc}
 use Rattle.records.specs.declared.Agent.{Agent}
 use Rattle.records.specs.declared.Message.{Message}
 use Rattle.rules.specs.declared.State.{State}
 use Rattle.rules.specs.Holding.{lock_of}
 use Rattle.text.specs.Decimal.{decimal, bytes}
-use Rattle.text.specs.Placing.{Put}
-use Rattle.text.specs.Text.{fields, line, row, rows_below, agent_text, message_text, written}
-use Rattle.text.specs.Rows.{ended, phase_part, map_part, status_part, lock_line, count_lines, agent_row, message_row, log_row}
-use Rattle.text.proofs.Placing.{put-none, put_then, put_of}
+use Rattle.text.specs.Text.{fields, line, row, agent_text, message_text, written}
+use Rattle.text.specs.Rows.{ended, phase_part, map_part, status_part, lock_line, count_lines, agent_rows, message_rows, log_rows}
 
 -- a row's key, as it is put
 abbrev pub keyed : List ℕ → ℕ → List ℕ
@@ -40,30 +34,13 @@ pub answer-parts : (k code number : ℕ)
 unfolding fields
 answer-parts k code number = simp append_assoc
 
--- the rows below a number, put one after another
-pub rows_none : (f : ℕ → List ℕ) (b : List ℕ) (p : ℕ) → Put (rows_below 0 f) b b p p
-unfolding rows_below
-rows_none f b p = put-none b p
-
-pub rows_more : (f : ℕ → List ℕ) (i : ℕ) {b₀ b₁ b₂ : List ℕ} {p₀ p₁ p₂ : ℕ}
-    → Put (rows_below i f) b₀ b₁ p₀ p₁ → Put (f i) b₁ b₂ p₁ p₂ → Put (rows_below (i + 1) f) b₀ b₂ p₀ p₂
-unfolding rows_below
-rows_more f i p q = put_of (λ n. rows_below n f) (add-one i) (put_then p q)
-
-pub rows_all : (f : ℕ → List ℕ) (n i : ℕ) {b₀ b₁ : List ℕ} {p₀ p₁ : ℕ}
-    → n ≤ i → i ≤ n → Put (rows_below i f) b₀ b₁ p₀ p₁ → Put (rows_below n f) b₀ b₁ p₀ p₁
-rows_all f n i h g p = put_of (λ k. rows_below k f) (le_antisymm h g) p
-
 four-first : (a b c d rest : List ℕ) → a ++ (b ++ (c ++ d)) ++ rest ≡ a ++ (b ++ (c ++ (d ++ rest)))
 four-first a b c d rest = simp append_assoc
 
 -- the table's text is its parts, one after another
 pub table-parts : (t : State)
     → count_lines t.sites t.agents t.messages t.handed
-    ++ (lock_line (lock_of t)
-    ++ (rows_below t.agents (agent_row t.agent)
-    ++ (rows_below t.messages (message_row t.sender t.number t.addressee t.value t.status)
-    ++ rows_below t.handed (log_row t.log))))
+    ++ (lock_line (lock_of t) ++ (agent_rows t ++ (message_rows t ++ log_rows t)))
     ≡ written t
 unfolding written
 table-parts t =

@@ -1,15 +1,9 @@
 -- A text is split in one way only: at the first byte that is not plain.
-use Prim.Native.Nat.{ℕ, zero, suc, ◌<◌}
-use mathlib.Core.Path.{◌≡◌, refl, sym, ap, ◌∙◌, subst}
-use mathlib.Core.Bool.{Bool, true, false, false≢true}
-use mathlib.Core.Logic.{◌⊎◌, inl, inr, ⊎_elim}
-use mathlib.Core.List.{List, [], ◌∷◌, ◌++◌, append_assoc, append_cancel_left, head-eq_of_cons-eq, tail-eq_of_cons-eq}
-use native.Mathlib.Omega.{arith}
-use lib.Dec.{ltb}
-use borrow.Author.Tests.{ltb-true, ltb-false}
+use Rattle.std.proofs.Common.{le_antisymm, le_of_suc-le-suc, ℕ, zero, suc, ◌<◌, ◌≡◌, refl, sym, ap, ◌∙◌, subst, false, ⊎_elim, List, [], ◌∷◌, ◌++◌, append_assoc, arith}
+use Rattle.std.proofs.lemmas.Bool.{cases_lt, false≢true, and_parts}
+use mathlib.Core.List.{append_cancel_left, head-eq_of_cons-eq, tail-eq_of_cons-eq}
 use Rattle.records.specs.Places.{all_of}
 use Rattle.text.specs.Text.{fields, line, rows_below}
-use Rattle.records.proofs.FlagLaws.{and_left, and_right}
 use Rattle.text.proofs.Plain.{is_plain, Plain, AllPlain}
 
 -- two texts that agree: the plain fields before their first other bytes agree, and so do the rests
@@ -20,15 +14,15 @@ unfolding all_of
 split_plain [] [] p q g h e = (refl, e)
 split_plain [] (b ∷ y) p q g h e =
     absurd
-    (false≢true (sym g ∙ ap is_plain (head-eq_of_cons-eq e) ∙ and_left (is_plain b) (all_of is_plain y) q))
+    (false≢true (sym g ∙ ap is_plain (head-eq_of_cons-eq e) ∙ (and_parts _ _ q).0))
 split_plain (a ∷ x) [] p q g h e =
     absurd
-    (false≢true (sym h ∙ ap is_plain (sym (head-eq_of_cons-eq e)) ∙ and_left (is_plain a) (all_of is_plain x) p))
+    (false≢true (sym h ∙ ap is_plain (sym (head-eq_of_cons-eq e)) ∙ (and_parts _ _ p).0))
 split_plain (a ∷ x) (b ∷ y) p q g h e =
     let more =
     split_plain x y
-    (and_right (is_plain a) (all_of is_plain x) p)
-    (and_right (is_plain b) (all_of is_plain y) q)
+    (and_parts (is_plain a) (all_of is_plain x) p).1
+    (and_parts (is_plain b) (all_of is_plain y) q).1
     g
     h
     (tail-eq_of_cons-eq e) in
@@ -40,13 +34,13 @@ pub split-fields : (x : List ℕ) (xs : List (List ℕ)) (y : List ℕ) (ys : Li
     → (◌≡◌ {A = List (List ℕ)} (x ∷ xs) (y ∷ ys)) × (rest ≡ last)
 unfolding all_of fields
 split-fields x [] y [] p q e =
-    let parts = split_plain x y (and_left (all_of is_plain x) true p) (and_left (all_of is_plain y) true q) refl refl e in
+    let parts = split_plain x y (and_parts _ _ p).0 (and_parts _ _ q).0 refl refl e in
     (ap (λ (z : List ℕ). z ∷ []) parts.0, tail-eq_of_cons-eq parts.1)
 split-fields x [] y (y' ∷ ys) {rest} {last} p q e =
     let parts =
     split_plain x y
-    (and_left (all_of is_plain x) true p)
-    (and_left (all_of is_plain y) (all_of (all_of is_plain) (y' ∷ ys)) q)
+    (and_parts _ _ p).0
+    (and_parts _ _ q).0
     refl
     refl
     (e ∙ append_assoc y (44 ∷ fields (y' ∷ ys)) (10 ∷ last)) in
@@ -54,8 +48,8 @@ split-fields x [] y (y' ∷ ys) {rest} {last} p q e =
 split-fields x (x' ∷ xs) y [] {rest} {last} p q e =
     let parts =
     split_plain x y
-    (and_left (all_of is_plain x) (all_of (all_of is_plain) (x' ∷ xs)) p)
-    (and_left (all_of is_plain y) true q)
+    (and_parts _ _ p).0
+    (and_parts _ _ q).0
     refl
     refl
     (sym (append_assoc x (44 ∷ fields (x' ∷ xs)) (10 ∷ rest)) ∙ e) in
@@ -63,8 +57,8 @@ split-fields x (x' ∷ xs) y [] {rest} {last} p q e =
 split-fields x (x' ∷ xs) y (y' ∷ ys) {rest} {last} p q e =
     let parts =
     split_plain x y
-    (and_left (all_of is_plain x) (all_of (all_of is_plain) (x' ∷ xs)) p)
-    (and_left (all_of is_plain y) (all_of (all_of is_plain) (y' ∷ ys)) q)
+    (and_parts _ _ p).0
+    (and_parts _ _ q).0
     refl
     refl
     (sym (append_assoc x (44 ∷ fields (x' ∷ xs)) (10 ∷ rest))
@@ -72,8 +66,8 @@ split-fields x (x' ∷ xs) y (y' ∷ ys) {rest} {last} p q e =
     ∙ append_assoc y (44 ∷ fields (y' ∷ ys)) (10 ∷ last)) in
     let more =
     split-fields x' xs y' ys
-    (and_right (all_of is_plain x) (all_of (all_of is_plain) (x' ∷ xs)) p)
-    (and_right (all_of is_plain y) (all_of (all_of is_plain) (y' ∷ ys)) q)
+    (and_parts (all_of is_plain x) (all_of (all_of is_plain) (x' ∷ xs)) p).1
+    (and_parts (all_of is_plain y) (all_of (all_of is_plain) (y' ∷ ys)) q).1
     (tail-eq_of_cons-eq parts.1) in
     (cc (parts.0, more.0), more.1)
 
@@ -92,12 +86,6 @@ split-line key x xs y ys {rest} {last} p q e =
     (61 ∷ (fields (y ∷ ys) ++ (10 ∷ last)))
     (sym (line-open key (fields (x ∷ xs)) rest) ∙ e ∙ line-open key (fields (y ∷ ys)) last)))
 
-below-or-top : (i n : ℕ) → i < suc n → (i < n) ⊎ (i ≡ n)
-below-or-top i n h = by (ltb i n) refl where
-  by : (b : Bool) → ltb i n ≡ b → (i < n) ⊎ (i ≡ n)
-  by true e = inl (ltb-true i n e)
-  by false e = inr (omega (arith, h, ltb-false i n e))
-
 -- as many rows of each, where a row can be told from what follows it
 pub split_rows : (f g : ℕ → List ℕ) (Same : ℕ → Type 0)
     → ((i : ℕ) (rest last : List ℕ) → f i ++ rest ≡ g i ++ last → Same i × (rest ≡ last))
@@ -110,4 +98,4 @@ split_rows f g Same split (suc n) rest last e =
     split_rows f g Same split n (f n ++ rest) (g n ++ last)
     (sym (append_assoc (rows_below n f) (f n) rest) ∙ e ∙ append_assoc (rows_below n g) (g n) last) in
     let one = split n rest last before.1 in
-    (λ i h. ⊎_elim (before.0 i) (λ top. subst Same (sym top) one.0) (below-or-top i n h), one.1)
+    (λ i h. ⊎_elim (before.0 i) (λ top. subst Same (le_antisymm top (le_of_suc-le-suc h)) one.0) (cases_lt i n), one.1)

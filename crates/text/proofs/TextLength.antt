@@ -1,19 +1,11 @@
 -- A sound table's text has at most 32,768 bytes, where its messages' values are numbers of 32 bits.
-use Prim.Native.Nat.{ℕ, zero, suc, ◌+◌, ◌*◌, ◌^◌, ◌≤◌, ◌<◌}
-use mathlib.Core.Path.{◌≡◌, refl, ap}
-use mathlib.Core.Bool.{Bool, true, false, cond}
-use mathlib.Core.Logic.{inl, inr}
-use mathlib.Core.List.{List, ◌++◌}
-use native.Mathlib.Omega.{arith}
-use lib.ListN.{length, length-append}
+use Rattle.std.proofs.Common.{Option, Some, None, ℕ, zero, suc, ◌+◌, ◌*◌, ◌^◌, ◌≤◌, ◌<◌, ◌≡◌, refl, ap, Bool, true, false, cond, inl, inr, List, ◌++◌, arith, length, length-append}
 use Rattle.records.specs.declared.AgentNo.{AgentNo}
 use Rattle.records.specs.declared.SiteNo.{SiteNo}
 use Rattle.records.specs.declared.MailNo.{MailNo}
 use Rattle.records.specs.declared.Agent.{Agent}
 use Rattle.records.specs.declared.Phase.{Phase}
 use Rattle.records.specs.declared.Phase.TheVariants.{Free, Spawning, Born, Enrolled, Asking, Granted, Landed, Booked}
-use Rattle.records.specs.declared.Mapped.{Mapped}
-use Rattle.records.specs.declared.Mapped.TheVariants.{Nowhere, At}
 use Rattle.records.specs.declared.Message.{Message}
 use Rattle.records.specs.declared.Status.{Status}
 use Rattle.records.specs.declared.Status.TheVariants.{Queued, Out, Handed, Closed, Lost}
@@ -26,7 +18,7 @@ use Rattle.rules.specs.Holding.{IsAgent, IsSite, IsMessage, agent_at, phase_of, 
 use Rattle.rules.specs.Soundness.{Sound}
 use Rattle.text.specs.Decimal.{decimal, bytes}
 use Rattle.text.specs.Text.{fields, line, row, rows_below, lock_text, phase_word, phase_number, map_text, status_word, status_site, agent_text, message_text, written}
-use Rattle.text.specs.Rows.{lock_line, count_lines, agent_row, message_row, log_row}
+use Rattle.text.specs.Rows.{lock_line, count_lines, agent_row, message_row, log_row, agent_rows, message_rows, log_rows}
 use Rattle.text.proofs.Decimals.{decimal-length, decimal-at-most-ten}
 use Rattle.text.proofs.RowParts.{table-parts}
 
@@ -64,9 +56,9 @@ phase-number-length (Granted u) n = two_digits u.0 (n.granted u refl)
 phase-number-length Landed n = omega arith
 phase-number-length Booked n = omega arith
 
-map-length : (m : Mapped) → ((s : SiteNo) → m ≡ At s → s.0 ≤ 99) → length (map_text m) ≤ 2
-map-length Nowhere h = omega arith
-map-length (At s) h = two_digits s.0 (h s refl)
+map-length : (m : Option SiteNo) → ((s : SiteNo) → m ≡ Some s → s.0 ≤ 99) → length (map_text m) ≤ 2
+map-length None h = omega arith
+map-length (Some s) h = two_digits s.0 (h s refl)
 
 status-length : (s : Status) → ((u : SiteNo) → s ≡ Out u → u.0 ≤ 99) → length (status_word s) + length (status_site s) ≤ 7
 status-length Queued h = omega arith
@@ -229,9 +221,9 @@ module _ (t : State) (s : Sound t) where
   text-fits values =
       let counts = count_lines t.sites t.agents t.messages t.handed in
       let lock = lock_line (lock_of t) in
-      let agents = rows_below t.agents (agent_row t.agent) in
-      let messages = rows_below t.messages (message_row t.sender t.number t.addressee t.value t.status) in
-      let log = rows_below t.handed (log_row t.log) in
+      let agents = agent_rows t in
+      let messages = message_rows t in
+      let log = log_rows t in
       omega (
         arith,
         ap length (table-parts t),

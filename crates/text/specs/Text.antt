@@ -1,10 +1,9 @@
 -- The written table: key=value lines, each ended by byte 10. Assumes nothing.
-use Rattle.std.specs.Prelude.{ℕ, zero, suc, List, [], ◌∷◌, ◌++◌}
+use Rattle.std.specs.Prelude.{ℕ, zero, suc, List, [], ◌∷◌, ◌++◌, Option, Some, None}
+use Rattle.records.specs.declared.SiteNo.{SiteNo}
 use Rattle.records.specs.declared.Agent.{Agent}
 use Rattle.records.specs.declared.Phase.{Phase}
 use Rattle.records.specs.declared.Phase.TheVariants.{Free, Spawning, Born, Enrolled, Asking, Granted, Landed, Booked}
-use Rattle.records.specs.declared.Mapped.{Mapped}
-use Rattle.records.specs.declared.Mapped.TheVariants.{Nowhere, At}
 use Rattle.records.specs.declared.Message.{Message}
 use Rattle.records.specs.declared.Status.{Status}
 use Rattle.records.specs.declared.Status.TheVariants.{Queued, Out, Handed, Closed, Lost}
@@ -64,9 +63,9 @@ phase_number (Granted u) = decimal u.0
 phase_number Landed = dash
 phase_number Booked = dash
 
-abbrev pub map_text : Mapped → List ℕ
-map_text Nowhere = dash
-map_text (At s) = decimal s.0
+abbrev pub map_text : Option SiteNo → List ℕ
+map_text None = dash
+map_text (Some s) = decimal s.0
 
 -- an agent: site, phase, the phase's number or a dash, map or a dash
 unfoldable pub agent_text : Agent → List ℕ

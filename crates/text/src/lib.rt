@@ -4,6 +4,7 @@
 
 use records::Code;
 
+// What a writing answers: the record of `write_of`.
 #[derive(Clone, Copy)]
 pub struct Written {
     pub code: Code,

@@ -7,18 +7,17 @@ ghost use Rattle.program.specs.Program.{take_line, turned_away, opened_by};
 ghost use Rattle.program.specs.Taking.{take_opening};
 
 use grammar::Line;
-use program::{Desk, Turn};
+use program::Turn;
 use records::Code;
-use records::codes::code_number;
 use table::Table;
 
 // A line that is refused before it comes to the table.
-fn turned_away(desk: Desk, code: Code) -> Turn
+fn turned_away(desk: Option<Table>, code: Code) -> Turn
     ensures { result ≡ turned_away desk code }
 {
     Turn {
-        desk: desk,
-        code: code,
+        desk,
+        code,
         number: 0,
     }
 }
@@ -28,52 +27,42 @@ fn opening(sites: u32) -> Turn
     ensures { result ≡ opened_by (open_table sites) }
 {
     let answer = Table::open(sites);
-    let code = answer.code;
-    let table = answer.table;
-    let shown = code_number(code);
     Turn {
-        desk: Desk {
-            opened: shown == 0,
-            table: table,
-        },
-        code: code,
+        desk: (answer.code == Code::Done).then_some(answer.table),
+        code: answer.code,
         number: answer.number,
     }
 }
 
 // A line that is no step: an opening goes on, and a line that is not in the grammar answers 24.
-fn take_opening(desk: Desk, line: Line) -> Turn
+#[tactic(auto, unfolding(program::specs::Taking::take_opening))]
+fn take_opening(desk: Option<Table>, line: Line) -> Turn
     ensures { result ≡ take_opening desk line }
 {
     let Line::Opening(sites) = line else {
         return turned_away(desk, Code::BadLine);
     };
-    if desk.opened {
-        return turned_away(desk, Code::AlreadyOpen);
+    match desk {
+        Some(_) => turned_away(desk, Code::AlreadyOpen),
+        None => opening(sites),
     }
-    opening(sites)
 }
 
 // One line: a step goes on, and a line that is none is an opening or not in the grammar.
-pub fn take(desk: Desk, line: Line) -> Turn
+#[tactic(auto, using(program::proofs::Turns::no_step), unfolding(program::specs::Program::take_line))]
+pub fn take(desk: Option<Table>, line: Line) -> Turn
     ensures { result ≡ take_line desk line }
 {
     let Line::Take(step) = line else {
         return take_opening(desk, line);
     };
-    if !desk.opened {
+    let Some(table) = desk else {
         return turned_away(desk, Code::NotOpen);
-    }
-    let before = desk.table;
-    let answer = before.step(step);
-    let after = answer.table;
-    let code = answer.code;
+    };
+    let answer = table.step(step);
     Turn {
-        desk: Desk {
-            opened: true,
-            table: after,
-        },
-        code: code,
+        desk: Some(answer.table),
+        code: answer.code,
         number: answer.number,
     }
 }

@@ -4,7 +4,6 @@
 ghost use Rattle.std.specs.Prelude.{◌≡◌};
 ghost use Rattle.text.specs.Writing.{write_of};
 
-use parts::is_sound;
 use records::Code;
 use rules::State;
 use text::Written;
@@ -23,13 +22,12 @@ mod whole;
 pub fn write(t: State, buf: &mut [u8]) -> Written
     ensures { (result ≡ (write_of t buf.old).answer) × (buf.new ≡ (write_of t buf.old).buffer) }
 {
-    let sound = is_sound(t);
-    if !sound {
+    if !soundness::is_sound(&t) {
         return Written {
             code: Code::BadState,
             number: 0,
             length: 0,
         };
     }
-    write_sound(t, buf)
+    write_sound(&t, buf)
 }

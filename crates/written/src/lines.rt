@@ -1,123 +1,101 @@
 // One line of each kind.
-ghost use Rattle.std.specs.Prelude.{◌+◌, ◌<◌, ◌≤◌};
 ghost use Rattle.text.specs.Decimal.{decimal, bytes};
-ghost use Rattle.text.specs.Placing.{Put};
 ghost use Rattle.text.specs.Text.{row, agent_text, message_text};
 ghost use Rattle.text.specs.Rows.{phase_part, map_part, status_part, lock_line, count_lines};
+ghost use Rattle.written.specs.Pens.{Penned};
 
-use crate::fields::{put_ended, put_numbered};
-use crate::place::put_word;
-use records::{Agent, Lock, MailNo, Mapped, Message, Phase, Status};
+use crate::place::Pen;
+use records::{Agent, Lock, MailNo, Message, Phase, SiteNo, Status};
+use rules::State;
 
-// A phase's word, and its number or a dash, with a comma after each.
-fn put_phase(buf: &mut [u8], at: usize, phase: Phase) -> usize
-    requires { at < 800000 }
-    ensures { Put (phase_part phase) buf.old buf.new at result × (result ≤ at + 21) }
-{
-    match phase {
-        Phase::Free => put_word(buf, at, b"free,-,"),
-        Phase::Spawning(child) => put_numbered(buf, at, b"spawning,", child.0, b','),
-        Phase::Born(parent) => put_numbered(buf, at, b"born,", parent.0, b','),
-        Phase::Enrolled(parent) => put_numbered(buf, at, b"enrolled,", parent.0, b','),
-        Phase::Asking(target) => put_numbered(buf, at, b"asking,", target.0, b','),
-        Phase::Granted(target) => put_numbered(buf, at, b"granted,", target.0, b','),
-        Phase::Landed => put_word(buf, at, b"landed,-,"),
-        Phase::Booked => put_word(buf, at, b"booked,-,"),
+impl Pen<'_> {
+    // Puts a phase's word, and its number or a dash, with a comma after each.
+    fn phase(&mut self, phase: Phase)
+        ensures { Penned (phase_part phase) self.old self.new }
+    {
+        match phase {
+            Phase::Free => self.word(b"free,-,"),
+            Phase::Spawning(child) => self.numbered(b"spawning,", child.0, b','),
+            Phase::Born(parent) => self.numbered(b"born,", parent.0, b','),
+            Phase::Enrolled(parent) => self.numbered(b"enrolled,", parent.0, b','),
+            Phase::Asking(target) => self.numbered(b"asking,", target.0, b','),
+            Phase::Granted(target) => self.numbered(b"granted,", target.0, b','),
+            Phase::Landed => self.word(b"landed,-,"),
+            Phase::Booked => self.word(b"booked,-,"),
+        }
     }
-}
 
-// A map entry or a dash, and the line's end.
-fn put_map(buf: &mut [u8], at: usize, map: Mapped) -> usize
-    requires { at < 800000 }
-    ensures { Put (map_part map) buf.old buf.new at result × (result ≤ at + 11) }
-{
-    match map {
-        Mapped::Nowhere => put_word(buf, at, b"-\n"),
-        Mapped::At(site) => put_ended(buf, at, site.0, b'\n'),
+    // Puts a map entry or a dash, and the line's end.
+    fn map(&mut self, map: Option<SiteNo>)
+        ensures { Penned (map_part map) self.old self.new }
+    {
+        match map {
+            None => self.word(b"-\n"),
+            Some(site) => self.ended(site.0, b'\n'),
+        }
     }
-}
 
-// A status's word, the site travelled to or a dash, and the line's end.
-fn put_status(buf: &mut [u8], at: usize, status: Status) -> usize
-    requires { at < 800000 }
-    ensures { Put (status_part status) buf.old buf.new at result × (result ≤ at + 21) }
-{
-    match status {
-        Status::Queued => put_word(buf, at, b"queued,-\n"),
-        Status::Out(site) => put_numbered(buf, at, b"out,", site.0, b'\n'),
-        Status::Handed => put_word(buf, at, b"handed,-\n"),
-        Status::Closed => put_word(buf, at, b"closed,-\n"),
-        Status::Lost => put_word(buf, at, b"lost,-\n"),
+    // Puts a status's word, the site travelled to or a dash, and the line's end.
+    fn status(&mut self, status: Status)
+        ensures { Penned (status_part status) self.old self.new }
+    {
+        match status {
+            Status::Queued => self.word(b"queued,-\n"),
+            Status::Out(site) => self.numbered(b"out,", site.0, b'\n'),
+            Status::Handed => self.word(b"handed,-\n"),
+            Status::Closed => self.word(b"closed,-\n"),
+            Status::Lost => self.word(b"lost,-\n"),
+        }
     }
-}
 
-// The lock's line.
-pub(crate) fn put_lock(buf: &mut [u8], at: usize, lock: Lock) -> usize
-    requires { at < 800000 }
-    ensures { Put (lock_line lock) buf.old buf.new at result × (result ≤ at + 21) }
-{
-    match lock {
-        Lock::Unheld => put_word(buf, at, b"lock=free\n"),
-        Lock::ForMove(a) => put_numbered(buf, at, b"lock=move:", a.0, b'\n'),
-        Lock::ForMail(m) => put_numbered(buf, at, b"lock=mail:", m.0, b'\n'),
+    // Puts the lock's line.
+    pub(crate) fn lock(&mut self, lock: Lock)
+        ensures { Penned (lock_line lock) self.old self.new }
+    {
+        match lock {
+            Lock::Unheld => self.word(b"lock=free\n"),
+            Lock::ForMove(a) => self.numbered(b"lock=move:", a.0, b'\n'),
+            Lock::ForMail(m) => self.numbered(b"lock=mail:", m.0, b'\n'),
+        }
     }
-}
 
-// The lines of the four counts.
-pub(crate) fn put_counts(
-    buf: &mut [u8],
-    at: usize,
-    sites: u32,
-    agents: u32,
-    messages: u32,
-    handed: u32,
-) -> usize
-    requires { at < 700000 }
-    ensures { Put (count_lines sites agents messages handed) buf.old buf.new at result × (result ≤ at + 84) }
-{
-    let first = put_numbered(buf, at, b"sites=", sites, b'\n');
-    let second = put_numbered(buf, first, b"agents=", agents, b'\n');
-    let third = put_numbered(buf, second, b"messages=", messages, b'\n');
-    put_numbered(buf, third, b"handed=", handed, b'\n')
-}
+    // Puts the lines of the four counts.
+    pub(crate) fn counts(&mut self, t: &State)
+        ensures { Penned (count_lines t.now.sites t.now.agents t.now.messages t.now.handed) self.old self.new }
+    {
+        self.numbered(b"sites=", t.sites, b'\n');
+        self.numbered(b"agents=", t.agents, b'\n');
+        self.numbered(b"messages=", t.messages, b'\n');
+        self.numbered(b"handed=", t.handed, b'\n');
+    }
 
-// An agent's line.
-pub(crate) fn put_agent(buf: &mut [u8], at: usize, i: u32, one: Agent) -> usize
-    requires { at < 700000 }
-    ensures { Put (row (bytes "agent") i (agent_text one)) buf.old buf.new at result × (result ≤ at + 64) }
-{
-    let site = one.site;
-    let phase = one.phase;
-    let map = one.map;
-    let keyed = put_numbered(buf, at, b"agent.", i, b'=');
-    let placed = put_ended(buf, keyed, site.0, b',');
-    let named = put_phase(buf, placed, phase);
-    put_map(buf, named, map)
-}
+    // Puts an agent's line.
+    pub(crate) fn agent(&mut self, i: u32, one: Agent)
+        ensures { Penned (row (bytes "agent") i (agent_text one)) self.old self.new }
+    {
+        self.numbered(b"agent.", i, b'=');
+        self.ended(one.site.0, b',');
+        self.phase(one.phase);
+        self.map(one.map);
+    }
 
-// A message's line.
-pub(crate) fn put_message(buf: &mut [u8], at: usize, i: u32, one: Message) -> usize
-    requires { at < 700000 }
-    ensures { Put (row (bytes "message") i (message_text one)) buf.old buf.new at result × (result ≤ at + 86) }
-{
-    let sender = one.sender;
-    let number = one.number;
-    let addressee = one.addressee;
-    let value = one.value;
-    let status = one.status;
-    let keyed = put_numbered(buf, at, b"message.", i, b'=');
-    let sent = put_ended(buf, keyed, sender.0, b',');
-    let counted = put_ended(buf, sent, number, b',');
-    let addressed = put_ended(buf, counted, addressee.0, b',');
-    let valued = put_ended(buf, addressed, value, b',');
-    put_status(buf, valued, status)
-}
+    // Puts a message's line.
+    pub(crate) fn message(&mut self, i: u32, one: Message)
+        ensures { Penned (row (bytes "message") i (message_text one)) self.old self.new }
+    {
+        self.numbered(b"message.", i, b'=');
+        self.ended(one.sender.0, b',');
+        self.ended(one.number, b',');
+        self.ended(one.addressee.0, b',');
+        self.ended(one.value, b',');
+        self.status(one.status);
+    }
 
-// The line of a log's entry.
-pub(crate) fn put_entry(buf: &mut [u8], at: usize, i: u32, m: MailNo) -> usize
-    requires { at < 700000 }
-    ensures { Put (row (bytes "log") i (decimal m.0)) buf.old buf.new at result × (result ≤ at + 32) }
-{
-    let keyed = put_numbered(buf, at, b"log.", i, b'=');
-    put_ended(buf, keyed, m.0, b'\n')
+    // Puts the line of a log's entry.
+    pub(crate) fn entry(&mut self, i: u32, m: MailNo)
+        ensures { Penned (row (bytes "log") i (decimal m.0)) self.old self.new }
+    {
+        self.numbered(b"log.", i, b'=');
+        self.ended(m.0, b'\n');
+    }
 }

@@ -1,16 +1,24 @@
 -- `lines::leading_number` meets its contract.
-use Rattle.grammar.proofs.NumberParts.{leading-none, leading-at-end, leading-other, leading-is}
-use borrow.Author.Rules.{rules}
+use Rattle.std.proofs.lemmas.List.{take_rest}
+use Rattle.grammar.proofs.Digits.{number-within}
+use Rattle.grammar.proofs.NumberParts.{none-read, leading-is, leading-other}
 use Rattle.lines.proofs.leading_number.Goals as goal
 
-pub returns-in_default : goal.returns-in_default
-returns-in_default c = search leading-none
+pub returns-in_err-number : goal.returns-in_err-number
+returns-in_err-number c = rw c.from_residual.ensures (λ m. none-read _ _ c.in_err-number.ensures)
 
-pub returns-then-text-taken : goal.returns-then-text-taken
-returns-then-text-taken c = search leading-at-end
+pub slice_bounds-strip_prefix-count : goal.slice_bounds-strip_prefix-count
+slice_bounds-strip_prefix-count c = number-within _ _ c.in_ok-number.ensures
 
-pub returns-then-text-taken-ne44 : goal.returns-then-text-taken-ne44
-returns-then-text-taken-ne44 c = search (leading-other, rules)
+pub slice_bounds-strip_prefix-start : goal.slice_bounds-strip_prefix-start
+slice_bounds-strip_prefix-start c = number-within _ _ c.in_ok-number.ensures
+
+pub returns-in_err-rest : goal.returns-in_err-rest
+returns-in_err-rest c =
+    let told = simp take_rest at c.strip_prefix.ensures.cases in
+    rw c.from_residual-in_err-rest.ensures (leading-other _ _ c.in_ok-number.ensures told c.in_err-rest.was)
 
 pub returns : goal.returns
-returns c = search (leading-is, rules)
+returns c =
+    let told = simp take_rest at c.strip_prefix.ensures.cases in
+    leading-is _ _ c.in_ok-number.ensures told c.in_ok-rest.was

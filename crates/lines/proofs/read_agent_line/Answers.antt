@@ -1,43 +1,26 @@
 -- `lines::read_agent_line` meets its contract.
+use Rattle.std.proofs.Common.{rules}
+use Rattle.grammar.specs.LineParts.{kind_at}
 use Rattle.grammar.proofs.LineKinds.{passed, met}
-use Rattle.grammar.proofs.Words.{word_fits}
 use Rattle.lines.proofs.read_agent_line.Goals as goal
 
-pub rest_of-requires : goal.rest_of-requires
-rest_of-requires c = word_fits _ _ c.begins.ensures c.if-begins.true
+pub returns-in-Some : goal.returns-in-Some
+returns-in-Some c = search (met, c.read_one.ensures (kind_at 4) (λ v l q. search rules))
 
-pub returns-then-begins : goal.returns-then-begins
-returns-then-begins c = search met
+pub returns-in-Some-strip_prefix : goal.returns-in-Some-strip_prefix
+returns-in-Some-strip_prefix c = search (passed, met, c.read_one-in-Some-strip_prefix.ensures (kind_at 5) (λ v l q. search rules))
 
-pub rest_of-requires-then-begins-2 : goal.rest_of-requires-then-begins-2
-rest_of-requires-then-begins-2 c = word_fits _ _ c.begins-2.ensures c.if-begins-2.true
+pub returns-in-Some-strip_prefix-2 : goal.returns-in-Some-strip_prefix-2
+returns-in-Some-strip_prefix-2 c = search (passed, met, c.read_one-in-Some-strip_prefix-2.ensures (kind_at 6) (λ v l q. search rules))
 
-pub returns-then-begins-2 : goal.returns-then-begins-2
-returns-then-begins-2 c = search (passed, met)
+pub returns-in-Some-strip_prefix-3 : goal.returns-in-Some-strip_prefix-3
+returns-in-Some-strip_prefix-3 c = search (passed, met, c.read_one-in-Some-strip_prefix-3.ensures (kind_at 7) (λ v l q. search rules))
 
-pub rest_of-requires-then-begins-3 : goal.rest_of-requires-then-begins-3
-rest_of-requires-then-begins-3 c = word_fits _ _ c.begins-3.ensures c.if-begins-3.true
+pub returns-in-Some-strip_prefix-4 : goal.returns-in-Some-strip_prefix-4
+returns-in-Some-strip_prefix-4 c = search (passed, met, c.read_one-in-Some-strip_prefix-4.ensures (kind_at 8) (λ v l q. search rules))
 
-pub returns-then-begins-3 : goal.returns-then-begins-3
-returns-then-begins-3 c = search (passed, met)
-
-pub rest_of-requires-then-begins-4 : goal.rest_of-requires-then-begins-4
-rest_of-requires-then-begins-4 c = word_fits _ _ c.begins-4.ensures c.if-begins-4.true
-
-pub returns-then-begins-4 : goal.returns-then-begins-4
-returns-then-begins-4 c = search (passed, met)
-
-pub rest_of-requires-then-begins-5 : goal.rest_of-requires-then-begins-5
-rest_of-requires-then-begins-5 c = word_fits _ _ c.begins-5.ensures c.if-begins-5.true
-
-pub returns-then-begins-5 : goal.returns-then-begins-5
-returns-then-begins-5 c = search (passed, met)
-
-pub rest_of-requires-then-begins-6 : goal.rest_of-requires-then-begins-6
-rest_of-requires-then-begins-6 c = word_fits _ _ c.begins-6.ensures c.if-begins-6.true
-
-pub returns-then-begins-6 : goal.returns-then-begins-6
-returns-then-begins-6 c = search (passed, met) depth 8
+pub returns-in-Some-strip_prefix-5 : goal.returns-in-Some-strip_prefix-5
+returns-in-Some-strip_prefix-5 c = search (passed, met, c.read_one-in-Some-strip_prefix-5.ensures (kind_at 9) (λ v l q. search rules)) depth 7 fits 4000
 
 pub returns : goal.returns
-returns c = search passed depth 8
+returns c = search passed depth 7 fits 4000

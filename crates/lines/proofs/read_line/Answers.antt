@@ -1,36 +1,25 @@
 -- `lines::read_line` meets its contract.
-use Rattle.grammar.proofs.LineKinds.{passed, met}
-use Rattle.grammar.proofs.Words.{word_fits}
+use Rattle.std.proofs.Common.{◌∙◌, rules}
 use Rattle.grammar.specs.Grammar.{line_of}
+use Rattle.grammar.specs.LineParts.{kind_at}
+use Rattle.grammar.proofs.LineKinds.{passed, met}
 use Rattle.lines.proofs.read_line.Goals as goal
 
-pub rest_of-requires : goal.rest_of-requires
-rest_of-requires c = word_fits _ _ c.begins.ensures c.if-begins.true
-
-pub returns-then-begins : goal.returns-then-begins
+pub returns-in-Some : goal.returns-in-Some
 unfolding line_of
-returns-then-begins c = search met
+returns-in-Some c = search (met, c.read_one.ensures (kind_at 0) (λ v l q. search rules))
 
-pub rest_of-requires-then-begins-2 : goal.rest_of-requires-then-begins-2
-rest_of-requires-then-begins-2 c = word_fits _ _ c.begins-2.ensures c.if-begins-2.true
-
-pub returns-then-begins-2 : goal.returns-then-begins-2
+pub returns-in-Some-strip_prefix : goal.returns-in-Some-strip_prefix
 unfolding line_of
-returns-then-begins-2 c = search (passed, met)
+returns-in-Some-strip_prefix c = search (passed, met, c.read_one-in-Some-strip_prefix.ensures (kind_at 1) (λ v l q. search rules))
 
-pub rest_of-requires-then-begins-3 : goal.rest_of-requires-then-begins-3
-rest_of-requires-then-begins-3 c = word_fits _ _ c.begins-3.ensures c.if-begins-3.true
-
-pub returns-then-begins-3 : goal.returns-then-begins-3
+pub returns-in-Some-strip_prefix-2 : goal.returns-in-Some-strip_prefix-2
 unfolding line_of
-returns-then-begins-3 c = search (passed, met)
+returns-in-Some-strip_prefix-2 c = search (passed, met, c.step_line.ensures ∙ c.read_ask.ensures)
 
-pub rest_of-requires-then-begins-4 : goal.rest_of-requires-then-begins-4
-rest_of-requires-then-begins-4 c = word_fits _ _ c.begins-4.ensures c.if-begins-4.true
-
-pub returns-then-begins-4 : goal.returns-then-begins-4
+pub returns-in-Some-strip_prefix-3 : goal.returns-in-Some-strip_prefix-3
 unfolding line_of
-returns-then-begins-4 c = search (passed, met)
+returns-in-Some-strip_prefix-3 c = search (passed, met, c.step_line-in-Some-strip_prefix-3.ensures ∙ c.read_send.ensures)
 
 pub returns : goal.returns
 unfolding line_of

@@ -1,26 +1,18 @@
 -- `lines::read_mail_line` meets its contract.
-use Rattle.grammar.proofs.LineKinds.{passed, met}
-use Rattle.grammar.proofs.Words.{word_fits}
+use Rattle.std.proofs.Common.{rules}
 use Rattle.grammar.specs.Grammar.{line_among}
+use Rattle.grammar.specs.LineParts.{kind_at}
+use Rattle.grammar.proofs.LineKinds.{passed, met}
 use Rattle.lines.proofs.read_mail_line.Goals as goal
 
-pub rest_of-requires : goal.rest_of-requires
-rest_of-requires c = word_fits _ _ c.begins.ensures c.if-begins.true
+pub returns-in-Some : goal.returns-in-Some
+returns-in-Some c = search (met, c.read_one.ensures (kind_at 10) (λ v l q. search rules))
 
-pub returns-then-begins : goal.returns-then-begins
-returns-then-begins c = search met
+pub returns-in-Some-strip_prefix : goal.returns-in-Some-strip_prefix
+returns-in-Some-strip_prefix c = search (passed, met, c.read_one-in-Some-strip_prefix.ensures (kind_at 11) (λ v l q. search rules))
 
-pub rest_of-requires-then-begins-2 : goal.rest_of-requires-then-begins-2
-rest_of-requires-then-begins-2 c = word_fits _ _ c.begins-2.ensures c.if-begins-2.true
-
-pub returns-then-begins-2 : goal.returns-then-begins-2
-returns-then-begins-2 c = search (passed, met)
-
-pub rest_of-requires-then-begins-3 : goal.rest_of-requires-then-begins-3
-rest_of-requires-then-begins-3 c = word_fits _ _ c.begins-3.ensures c.if-begins-3.true
-
-pub returns-then-begins-3 : goal.returns-then-begins-3
-returns-then-begins-3 c = search (passed, met)
+pub returns-in-Some-strip_prefix-2 : goal.returns-in-Some-strip_prefix-2
+returns-in-Some-strip_prefix-2 c = search (passed, met, c.read_one-in-Some-strip_prefix-2.ensures (kind_at 12) (λ v l q. search rules))
 
 pub returns : goal.returns
 unfolding line_among

@@ -1,60 +1,36 @@
 -- `script::run_lines` meets its contract.
-use Prim.Native.Nat.{suc}
-use mathlib.Core.Path.{refl, sym, ◌∙◌}
-use native.Mathlib.Omega.{arith}
-use Rattle.program.specs.Running.{from}
-use Rattle.grammar.proofs.LineEnds.{taken-within, taken-some}
-use Rattle.program.proofs.Runs.{came_same, part_length, turn_on, run_ends}
+use Rattle.std.proofs.Common.{ℕ, ◌+◌, ◌-◌, ◌≤◌, ◌≡◌, List, [], length, refl, sym, ap, ◌∙◌, arith, rules}
+use mathlib.Core.Logic.{◌⊎◌, inl, inr}
+use Rattle.grammar.proofs.LineEnds.{lines-within}
+use Rattle.program.proofs.Runs.{came_same, turn_on, run_ends}
+use Rattle.script.specs.Putting.{progress}
 use Rattle.script.proofs.run_lines.Goals as goal
 
-pub loop-rest-init : goal.loop-rest-init
-loop-rest-init c = (omega arith, (refl, rw c.no_desk-desk.ensures))
+-- where the lines and their numbers gave no pair, it is the lines that have ended
+none-left : {X Y : Type 0} {F : X → Type 0} {G : Y → Type 0} (k : ℕ) (ls : List (List ℕ)) → k + length ls ≤ 65537
+    → ((x : X) × ((4294967295 - k ≡ 0) × F x)) ⊎ ((y : Y) × ((ls ≡ []) × G y)) → ls ≡ []
+none-left k ls few (inl (x, (e, f))) = absurd (omega arith)
+none-left k ls few (inr (y, (e, g))) = e
 
-pub overflow_add-k : goal.overflow_add-k
-overflow_add-k c = omega arith
+pub loop-k-init : goal.loop-k-init
+loop-k-init c =
+    let zip = c.zip-k-items.ensures in
+    rw (c.into_iter-k-iterator.ensures.into_iter_gives, zip.first, zip.second, c.lines_in.ensures)
+    (omega (arith, lines-within c.args.input.now, c.requires), refl, refl)
 
-pub slice_bounds-rest-count : goal.slice_bounds-rest-count
-slice_bounds-rest-count c = omega (arith, c.line_taken-taken.ensures, taken-within c.loop-rest.rest.now)
-
-pub slice_bounds-rest-start : goal.slice_bounds-rest-start
-slice_bounds-rest-start c = omega (arith, c.line_taken-taken.ensures, taken-within c.loop-rest.rest.now)
-
-pub loop-rest-smaller : goal.loop-rest-smaller
-loop-rest-smaller c =
-    let taken = c.line_taken-taken in
-    let rest = c.loop-rest.rest.now in
-    omega (
-      arith,
-      part_length taken.result rest,
-      taken-some rest c.loop-rest-test.true,
-      taken.ensures,
-      taken-within rest,
-    )
-
-pub loop-rest-preserved : goal.loop-rest-preserved
-loop-rest-preserved c =
-    let taken = c.line_taken-taken in
-    let loop = c.loop-rest in
-    let rest = loop.rest.now in (
-      omega (
-        arith,
-        part_length taken.result rest,
-        taken-some rest c.loop-rest-test.true,
-        taken.ensures,
-        taken-within rest,
-      ),
-      (
-        c.put_answer-at.auto.output ∙ loop.invariant.1.0,
-        loop.invariant.1.1
-            ∙ turn_on loop.k rest loop.desk c.loop-rest-test.true c.first_line.ensures c.read_line.ensures
-            c.take-turn.ensures
-            c.put_answer-at.ensures
-            taken.ensures,
-      ),
-    )
+pub loop-k-preserved : goal.loop-k-preserved
+loop-k-preserved c =
+    let loop = c.loop-k in
+    let counted = c.in-Some.ensures.steps.0 in
+    let walked = c.in-Some.ensures.steps.1 in
+    let turn = turn_on loop.k-iterator.a.start (progress loop.out) loop.desk counted walked c.read_line.ensures c.take-turn.ensures c.put_answer.ensures.put in
+    let inv = loop.invariant in
+    (omega (arith, counted, ap length walked, inv.0), inv.1 ∙ turn, c.put_answer.ensures.same_reference ∙ inv.2)
 
 pub returns : goal.returns
 returns c =
-    let loop = c.loop-rest in
-    let ended = run_ends (from loop.at loop.output) loop.desk (suc loop.k) loop.rest.now c.loop-rest-test.false in
-    came_same (ended ∙ sym loop.invariant.1.1) c.put_end.ensures
+    let loop = c.loop-k in
+    let inv = loop.invariant in
+    let ended = run_ends (progress loop.out) loop.desk loop.k-iterator.a.start (none-left _ _ inv.0 c.in-None.ensures.steps) in
+    let same = c.put_end.ensures.same_reference ∙ inv.2 in
+    came_same (c.put_end.ensures.put ∙ ended ∙ sym inv.1) (record { place = refl; held = search (rules, same) })

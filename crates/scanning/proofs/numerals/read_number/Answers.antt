@@ -1,26 +1,16 @@
 -- `scanning::numerals::read_number` meets its contract.
-use native.Mathlib.Omega.{arith}
-use Rattle.grammar.proofs.Digits.{no-digits, many-digits, too_large, a-number}
+use Rattle.std.proofs.Common.{◌≡◌, ◌∙◌, arith}
+use Rattle.grammar.proofs.Digits.{value-taken, not-so_many, too_large, a-number}
 use Rattle.scanning.proofs.numerals.read_number.Goals as goal
 
-pub returns-then-digits-eq0 : goal.returns-then-digits-eq0
-returns-then-digits-eq0 c =
-    let text = c.args.text.now in
-    no-digits text c.digit_run-digits.result c.digit_run-digits.ensures.0 c.if-digits-eq0.true
+pub returns-then-not-contains : goal.returns-then-not-contains
+returns-then-not-contains c = not-so_many _ _ c.digit_run-taken.ensures.0 (grind arith)
 
-pub returns-then-digits-gt-MOST_DIGITS : goal.returns-then-digits-gt-MOST_DIGITS
-returns-then-digits-gt-MOST_DIGITS c =
-    let text = c.args.text.now in
-    many-digits text c.digit_run-digits.result c.digit_run-digits.ensures.0 c.if-digits-gt-MOST_DIGITS.true
-
-pub returns-then-value-gt-MOST_NUMBER : goal.returns-then-value-gt-MOST_NUMBER
-returns-then-value-gt-MOST_NUMBER c =
-    let text = c.args.text.now in
-    too_large text c.digit_run-digits.result c.digit_run-digits.ensures.0 c.value_of-value.result
-    c.value_of-value.ensures (omega arith) (omega arith) c.if-value-gt-MOST_NUMBER.true
+pub returns-in_err-value : goal.returns-in_err-value
+returns-in_err-value c =
+    c.from_residual.ensures ∙ too_large _ _ c.digit_run-taken.ensures.0 _ (c.value_of.ensures ∙ value-taken 0 _ _) (grind arith)
 
 pub returns : goal.returns
 returns c =
-    let text = c.args.text.now in
-    a-number text c.digit_run-digits.result c.digit_run-digits.ensures.0 c.value_of-value.result
-    c.value_of-value.ensures (omega arith) (omega arith) c.if-value-gt-MOST_NUMBER.false
+    let value : c.in_ok-value.value ≡ c.value_of.result = grind arith in
+    a-number _ _ c.digit_run-taken.ensures.0 _ (value ∙ (c.value_of.ensures ∙ value-taken 0 _ _)) (grind arith) (grind arith) (grind arith)

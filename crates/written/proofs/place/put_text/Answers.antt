@@ -1,7 +1,7 @@
 -- `written::place::put_text` meets its contract.
-use mathlib.Core.Path.{sym, ◌∙◌}
+use mathlib.Core.Path.{sym}
 use native.Mathlib.Omega.{arith}
-use Rattle.text.proofs.Placing.{put-past, place-within, place-past}
+use Rattle.text.proofs.Placing.{put-past, place-past}
 use Rattle.written.proofs.place.put_text.Goals as goal
 
 pub returns-then-buf-at : goal.returns-then-buf-at
@@ -10,12 +10,3 @@ returns-then-buf-at c =
     let text = args.text.now in
     let buf = args.buf.now in
     record { place = sym (place-past text buf args.at c.if-buf-at.true); held = put-past text buf args.at (omega arith) }
-
-pub returns : goal.returns
-returns c =
-    let put = c.put_word.ensures in
-    let args = c.args in
-    record {
-      place = put.place ∙ sym (place-within args.text.now args.buf.now args.at c.if-buf-at.false);
-      held = put.held;
-    }

@@ -1,8 +1,0 @@
--- `leap` meets its contract.
-use Rattle.rules.specs.Steps.{rule_of}
-use Rattle.rules.proofs.Stepping.{step_by}
-use Rattle.leaps.proofs.leap.Goals as goal
-
-pub returns : goal.returns
-unfolding rule_of
-returns c = search step_by

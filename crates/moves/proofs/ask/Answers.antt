@@ -1,8 +1,0 @@
--- `ask` meets its contract.
-use Rattle.rules.specs.Steps.{rule_of}
-use Rattle.rules.proofs.Stepping.{step_by}
-use Rattle.moves.proofs.ask.Goals as goal
-
-pub returns : goal.returns
-unfolding rule_of
-returns c = search step_by

@@ -1,0 +1,38 @@
+// The lines of a text, one after the other.
+ghost use Rattle.std.specs.Prelude.{◌≡◌};
+ghost use Rattle.std.specs.Iterator.{YieldsFirstRef, item_count};
+ghost use Rattle.grammar.specs.Lines.{lines_of};
+ghost use Rattle.scanning.specs.Walking.{lines_left};
+
+use crate::finding::{first_line, line_taken};
+
+// What of a text is still to be walked.
+#[derive(Drop)]
+pub struct Lines<'a> {
+    rest: &'a [u8],
+}
+
+// The lines of a text, from its first one on.
+pub fn lines_in(text: &[u8]) -> Lines<'_>
+    ensures { lines_left result ≡ lines_of text.now }
+{
+    Lines { rest: text }
+}
+
+impl<'a> Iterator for Lines<'a> {
+    type Item = &'a [u8];
+
+    ghost next_gives = { YieldsFirstRef lines_left };
+
+    ghost remaining = { item_count lines_left };
+
+    // The first line, which is walked then.
+    fn next(&mut self) -> Option<&'a [u8]> {
+        if self.rest.is_empty() {
+            return None;
+        }
+        let line = first_line(self.rest);
+        self.rest = &self.rest[line_taken(self.rest)..];
+        Some(line)
+    }
+}
