@@ -7,7 +7,8 @@ ghost use Rattle.records.specs.Agents.{is_moving, is_empty_agent};
 ghost use Rattle.records.specs.Locks.{held_for_move};
 ghost use Rattle.rules.specs.Tests.{agent_sites, family, map_right};
 
-use records::{Agent, AgentNo, Lock, Phase, SiteNo};
+use records::agents::empty_agent;
+use records::{Agent, AgentNo, Lock, Phase};
 
 // The sites that an agent names.
 fn agent_sites(sites: u32, one: Agent) -> bool
@@ -17,11 +18,7 @@ fn agent_sites(sites: u32, one: Agent) -> bool
         Phase::Asking(target) | Phase::Granted(target) => target.0 < sites,
         _ => true,
     };
-    let entry_there = match one.map {
-        Some(entry) => entry.0 < sites,
-        None => true,
-    };
-    one.site.0 < sites && target_there && entry_there
+    one.site.0 < sites && target_there && one.map.is_none_or(|entry| entry.0 < sites)
 }
 
 // A spawning agent names a child, and a child names a spawning agent: one that is there, names it back and stands at its site.
@@ -31,18 +28,12 @@ fn is_family(agents: u32, a: AgentNo, one: Agent, other: Agent) -> bool
     let together = other.site == one.site;
     match one.phase {
         Phase::Spawning(child) => {
-            let back = match other.phase {
-                Phase::Born(parent) | Phase::Enrolled(parent) => parent == a,
-                _ => false,
-            };
+            let back =
+                matches!(other.phase, Phase::Born(parent) | Phase::Enrolled(parent) if parent == a);
             child.0 < agents && back && together
         }
         Phase::Born(parent) | Phase::Enrolled(parent) => {
-            let back = match other.phase {
-                Phase::Spawning(child) => child == a,
-                _ => false,
-            };
-            parent.0 < agents && back && together
+            parent.0 < agents && other.phase == Phase::Spawning(a) && together
         }
         _ => true,
     }
@@ -80,5 +71,5 @@ pub fn agent_fine(sites: u32, agents: u32, lock: Lock, a: AgentNo, one: Agent, o
 pub fn is_empty_agent(one: Agent) -> bool
     ensures { result ≡ is_empty_agent one }
 {
-    one.site == SiteNo(0) && one.phase.is_free() && one.map.is_none()
+    one == empty_agent()
 }

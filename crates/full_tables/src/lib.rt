@@ -1,4 +1,5 @@
-// Tables filled by steps, for the programs that run at the limits. What these functions promise is what the steps do.
+// Tables filled by steps, for the programs that run at the limits. What these functions promise is what the steps do. Each goes through
+// steps of its own, so each is a loop of its own.
 #![tactic(auto)]
 
 use records::{AgentNo, MailNo};

@@ -54,10 +54,7 @@ mod tests {
     fn keeps_what_was_read_before_an_error(rt: HostRuntime) {
         let mut input = Breaking { left: b"sites=2" };
         let mut buf = [b'#'; 10];
-        let kind = match read_full(&mut input, &mut buf) {
-            Ok(_) => None,
-            Err(e) => Some(e.kind()),
-        };
+        let kind = read_full(&mut input, &mut buf).err().map(|e| e.kind());
         assert_eq!(rt; kind, Some(ErrorKind::Interrupted));
         assert_eq!(rt; buf, *b"sites=2###");
     }
@@ -67,11 +64,7 @@ mod tests {
     fn stops_where_the_buffer_is_full(rt: HostRuntime) {
         let mut input = Breaking { left: b"sites=2" };
         let mut buf = [b'#'; 7];
-        let count = match read_full(&mut input, &mut buf) {
-            Ok(count) => count,
-            Err(_) => 0,
-        };
-        assert_eq!(rt; count, 7);
+        assert_eq!(rt; read_full(&mut input, &mut buf).ok(), Some(7));
         assert_eq!(rt; buf, *b"sites=2");
     }
 }

@@ -16,14 +16,9 @@ pub fn first_line(text: &[u8]) -> &[u8]
     &text[..line_length(text)]
 }
 
-// How many bytes the first line takes, its line end among them where it has one: the next line begins there. As the least of end + 1 and
-// the text's length it would be no plainer.
+// How many bytes the first line takes, its line end among them where it has one: the next line begins there.
 pub fn line_taken(text: &[u8]) -> usize
     ensures { result ≡ line_taken text.now }
 {
-    let end = line_length(text);
-    if end < text.len() {
-        return end + 1;
-    }
-    end
+    (line_length(text) + 1).min(text.len())
 }

@@ -103,10 +103,8 @@ mod tests {
     #[test]
     fn keeps_what_was_written_before_an_error(rt: HostRuntime) {
         let mut held = [b'#'; 20];
-        let kind = match print(&mut Breaking { room: &mut held }, b"sites=2\nspawn=0\n") {
-            Ok(()) => None,
-            Err(e) => Some(e.kind()),
-        };
+        let done = print(&mut Breaking { room: &mut held }, b"sites=2\nspawn=0\n");
+        let kind = done.err().map(|e| e.kind());
         assert_eq!(rt; kind, Some(ErrorKind::Interrupted));
         assert_eq!(rt; held, *b"line.1=0,0\nline.2=0,");
     }
@@ -115,10 +113,8 @@ mod tests {
     #[test]
     fn answers_a_writer_that_takes_nothing(rt: HostRuntime) {
         let mut held = [b'#'; 20];
-        let kind = match print(&mut held.as_mut_slice(), b"sites=2\nspawn=0\n") {
-            Ok(()) => None,
-            Err(e) => Some(e.kind()),
-        };
+        let done = print(&mut held.as_mut_slice(), b"sites=2\nspawn=0\n");
+        let kind = done.err().map(|e| e.kind());
         assert_eq!(rt; kind, Some(ErrorKind::WriteZero));
         assert_eq!(rt; held, *b"line.1=0,0\nline.2=0,");
     }

@@ -1,4 +1,4 @@
-// The one place where a step meets the soundness test and its rule.
+// The one place where a step meets the soundness test and its rule: one match on the step, as `rule_of` has it.
 #![tactic(auto)]
 
 ghost use Rattle.std.specs.Prelude.{◌≡◌};

@@ -69,7 +69,7 @@ fn own_line(line: &[u8]) -> Option<Own> {
     filling_line(line).or_else(|| reading_line(line))
 }
 
-// Takes a line of this program's own.
+// Takes a line of this program's own. Writer and table are two loans, and each function here names which of them it changes.
 fn take_own<W: Write>(out: &mut W, t: &mut Table, own: Own) -> io::Result<()> {
     match own {
         Own::Without => {

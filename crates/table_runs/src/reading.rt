@@ -1,5 +1,5 @@
 // What is read of a table, printed: an agent, a message, the first two entries of an inbox. There is no Display here: each value is printed
-// in one place, in words of this program alone.
+// in one place, in words of this program alone. What is read under each kind of number is another record, printed otherwise.
 use records::{Agent, AgentNo, Item, MailNo, Message, Phase, SiteNo, Status};
 use std::io;
 use std::io::Write;

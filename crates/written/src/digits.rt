@@ -16,7 +16,8 @@ impl Pen<'_> {
     }
 }
 
-// Puts the digits of a number at the front of ten bytes, with no leading zero, and answers how many they are.
+// Puts the digits of a number at the front of ten bytes, with no leading zero, and answers how many they are. It calls itself as `decimal`
+// does, one remainder a digit.
 pub fn digits(n: u32, out: &mut [u8; 10]) -> usize
     ensures { Put (decimal n) out.old out.new 0 result }
 {

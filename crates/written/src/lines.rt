@@ -1,4 +1,4 @@
-// One line of each kind.
+// One line of each kind. The words are the text's own; what else prints such a value says it in other words.
 ghost use Rattle.text.specs.Decimal.{decimal, bytes};
 ghost use Rattle.text.specs.Text.{row, agent_text, message_text};
 ghost use Rattle.text.specs.Rows.{phase_part, map_part, status_part, lock_line, count_lines};

@@ -22,7 +22,8 @@ impl Pen<'_> {
     }
 }
 
-// A writing of a sound table. The text is measured by a pen with no room before a byte of the lent buffer is stored.
+// A writing of a sound table. The text is measured by a pen with no room before a byte of the lent buffer is stored. A refusal is written
+// out here and in `write`: a function for it would be longer than both.
 pub(crate) fn write_sound(t: &State, buf: &mut [u8]) -> Written
     ensures { (result ≡ (write_fitting t.now buf.old).answer) × (buf.new ≡ (write_fitting t.now buf.old).buffer) }
 {

@@ -1,4 +1,4 @@
-// The tables that are written, put together field by field.
+// The tables that are written, put together field by field; no two have the same fields set.
 ghost use Rattle.std.specs.Prelude.{◌<◌};
 
 use records::limits::{MESSAGE_ROOM, MOST_AGENTS, MOST_MESSAGES, MOST_SITES};
