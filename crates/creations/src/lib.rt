@@ -2,7 +2,8 @@
 // an array reads as its filling.
 #![tactic(auto)]
 
-ghost use Rattle.std.specs.Prelude.{◌≡◌};
+ghost use Rattle.std.specs.Prelude.{◌≡◌, IfErr};
+ghost use Rattle.records.specs.Codes.{IsRefusal};
 ghost use Rattle.rules.specs.Answers.{reply_of};
 ghost use Rattle.rules.specs.Steps.{spawn_rule, enrol_rule, greet_rule};
 
@@ -16,7 +17,8 @@ use rules::{State, Taken};
 // A new agent at the site of a, which is then spawning. The number is the child's.
 #[tactic(auto, unfolding(rules::specs::Steps::spawn_rule))]
 pub fn spawn_rule(t: &mut State, a: AgentNo) -> Result<Taken, Code>
-    ensures { reply_of t.new result ≡ spawn_rule t.old a }
+    ensures replies { reply_of t.new result ≡ spawn_rule t.old a }
+    ensures refusal { IfErr result IsRefusal }
 {
     let mut one = agent_at(t, a).ok_or(Code::NoAgent)?;
     if !one.phase.is_free() {
@@ -36,7 +38,8 @@ pub fn spawn_rule(t: &mut State, a: AgentNo) -> Result<Taken, Code>
 // The server learns of a born agent. The parent stays as it is: it is free only once its child was greeted.
 #[tactic(auto, unfolding(rules::specs::Steps::enrol_rule))]
 pub fn enrol_rule(t: &mut State, b: AgentNo) -> Result<Taken, Code>
-    ensures { reply_of t.new result ≡ enrol_rule t.old b }
+    ensures replies { reply_of t.new result ≡ enrol_rule t.old b }
+    ensures refusal { IfErr result IsRefusal }
 {
     let mut one = agent_at(t, b).ok_or(Code::NoAgent)?;
     let Phase::Born(parent) = one.phase else {
@@ -54,7 +57,8 @@ pub fn enrol_rule(t: &mut State, b: AgentNo) -> Result<Taken, Code>
 // An enrolled agent and its parent become free together.
 #[tactic(auto, unfolding(rules::specs::Steps::greet_rule))]
 pub fn greet_rule(t: &mut State, b: AgentNo) -> Result<Taken, Code>
-    ensures { reply_of t.new result ≡ greet_rule t.old b }
+    ensures replies { reply_of t.new result ≡ greet_rule t.old b }
+    ensures refusal { IfErr result IsRefusal }
 {
     let mut child = agent_at(t, b).ok_or(Code::NoAgent)?;
     let Phase::Enrolled(a) = child.phase else {

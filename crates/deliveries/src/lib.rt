@@ -2,7 +2,8 @@
 // an array reads as its filling.
 #![tactic(auto)]
 
-ghost use Rattle.std.specs.Prelude.{◌≡◌, ◌≤◌};
+ghost use Rattle.std.specs.Prelude.{◌≡◌, ◌≤◌, IfErr};
+ghost use Rattle.records.specs.Codes.{IsRefusal};
 ghost use Rattle.records.specs.Limits.{most_messages};
 ghost use Rattle.rules.specs.Answers.{reply_of};
 ghost use Rattle.rules.specs.Steps.{forward_rule, hand_rule, close_rule};
@@ -17,7 +18,8 @@ use rules::{State, Taken};
 // away from it.
 #[tactic(auto, unfolding(rules::specs::Steps::forward_rule))]
 pub fn forward_rule(t: &mut State, m: MailNo) -> Result<Taken, Code>
-    ensures { reply_of t.new result ≡ forward_rule t.old m }
+    ensures replies { reply_of t.new result ≡ forward_rule t.old m }
+    ensures refusal { IfErr result IsRefusal }
 {
     let one = message_at(t, m).ok_or(Code::NoMessage)?;
     if one.status != Status::Queued {
@@ -38,7 +40,8 @@ pub fn forward_rule(t: &mut State, m: MailNo) -> Result<Taken, Code>
 // it is; no sound table comes to that. Nothing is said of a log that is longer than its array: it may be too long to count on.
 #[tactic(auto, unfolding(rules::specs::Steps::hand_rule))]
 pub fn hand_rule(t: &mut State, m: MailNo) -> Result<Taken, Code>
-    ensures { t.old.handed ≤ most_messages → reply_of t.new result ≡ hand_rule t.old m }
+    ensures replies { t.old.handed ≤ most_messages → reply_of t.new result ≡ hand_rule t.old m }
+    ensures refusal { IfErr result IsRefusal }
 {
     let one = message_at(t, m).ok_or(Code::NoMessage)?;
     let Status::Out(site) = one.status else {
@@ -58,7 +61,8 @@ pub fn hand_rule(t: &mut State, m: MailNo) -> Result<Taken, Code>
 // A handed message is over, and the lock is free for the next.
 #[tactic(auto, unfolding(rules::specs::Steps::close_rule))]
 pub fn close_rule(t: &mut State, m: MailNo) -> Result<Taken, Code>
-    ensures { reply_of t.new result ≡ close_rule t.old m }
+    ensures replies { reply_of t.new result ≡ close_rule t.old m }
+    ensures refusal { IfErr result IsRefusal }
 {
     let one = message_at(t, m).ok_or(Code::NoMessage)?;
     if one.status != Status::Handed {

@@ -1,6 +1,9 @@
 -- A word at the front of a text, and what it leaves.
-use Rattle.std.proofs.Common.{ℕ, List, [], ◌∷◌, ◌++◌, ◌+◌, Bool, true, false, cond, Option, Some, None, MatchOption, length, take, drop, eqb, ◌≡◌, refl}
+use Rattle.std.proofs.Common.{ℕ, List, [], ◌∷◌, ◌++◌, ◌+◌, Bool, true, false, cond, Option, Some, None, MatchOption, length, take, drop, slice_get, eqb, ne_eqb, ◌≡◌, refl, sym, ◌∙◌}
 use Rattle.std.proofs.lemmas.Bool.{eq-eqb, eqb-true}
+use Rattle.std.proofs.lemmas.Bool.Decides.{Decides-eqb}
+use Rattle.std.proofs.lemmas.Option.{none-some, same_Some}
+use Rattle.std.proofs.lemmas.Slice.Eq.{strip_prefix_is}
 use Rattle.std.specs.Cmp.Lexicographic.{pointwise}
 use denote.Ref.{Bor}
 use Rattle.grammar.specs.Grammar.{after_word}
@@ -29,3 +32,26 @@ not-begun (w ∷ ws) (b ∷ bs) other = by (eqb w b) refl (λ same. not-begun ws
     by : (t : Bool) → eqb w b ≡ t → (eqb w b ≡ true → after_word ws bs ≡ None) → cond t (after_word ws bs) None ≡ None
     by true same rest = rest same
     by false same rest = refl
+
+-- a text that begins with another byte
+pub other-first :
+    (w bs : List ℕ) (x y : ℕ)
+    → Some y ≡ slice_get w 0
+    → Some x ≡ slice_get bs 0
+    → (x ≡ y → ⊥)
+    → after_word w bs ≡ None
+unfolding after_word
+other-first [] bs x y e f other = absurd (none-some y (sym e))
+other-first (w ∷ ws) [] x y e f other = refl
+other-first (w ∷ ws) (b ∷ bs) x y e f other = rw (ne_eqb w b (λ same. other (same_Some x b f ∙ (sym same ∙ sym (same_Some y w e))))) refl
+
+-- what `strip_prefix` says, as what stands behind the word
+pub stripped :
+    (w bs : List ℕ)
+    (found : Option (Bor (List ℕ)))
+    → Stripped w bs found
+    → MatchOption found (after_word w bs ≡ None) (λ rest. after_word w bs ≡ Some rest.now)
+stripped w bs None told = not-begun w bs (strip_prefix_is Decides-eqb bs w None told)
+stripped w bs (Some rest) told =
+    let whole : bs ≡ w ++ rest.now = strip_prefix_is Decides-eqb bs w (Some rest) told in
+    rw (whole, begun w rest.now) refl

@@ -2,7 +2,8 @@
 // place past an array reads as its filling.
 #![tactic(auto)]
 
-ghost use Rattle.std.specs.Prelude.{◌≡◌};
+ghost use Rattle.std.specs.Prelude.{◌≡◌, IfErr};
+ghost use Rattle.records.specs.Codes.{IsRefusal};
 ghost use Rattle.rules.specs.Answers.{reply_of};
 ghost use Rattle.rules.specs.Steps.{grant_rule, leap_rule, book_rule};
 
@@ -14,7 +15,8 @@ use rules::{State, Taken};
 // The lock is taken for the move of an asking agent. The map entry stays: the agent is still where it was.
 #[tactic(auto, unfolding(rules::specs::Steps::grant_rule))]
 pub fn grant_rule(t: &mut State, a: AgentNo) -> Result<Taken, Code>
-    ensures { reply_of t.new result ≡ grant_rule t.old a }
+    ensures replies { reply_of t.new result ≡ grant_rule t.old a }
+    ensures refusal { IfErr result IsRefusal }
 {
     let mut one = agent_at(t, a).ok_or(Code::NoAgent)?;
     let Phase::Asking(target) = one.phase else {
@@ -32,7 +34,8 @@ pub fn grant_rule(t: &mut State, a: AgentNo) -> Result<Taken, Code>
 // A granted agent goes to its target; the server learns of it at book.
 #[tactic(auto, unfolding(rules::specs::Steps::leap_rule))]
 pub fn leap_rule(t: &mut State, a: AgentNo) -> Result<Taken, Code>
-    ensures { reply_of t.new result ≡ leap_rule t.old a }
+    ensures replies { reply_of t.new result ≡ leap_rule t.old a }
+    ensures refusal { IfErr result IsRefusal }
 {
     let mut one = agent_at(t, a).ok_or(Code::NoAgent)?;
     let Phase::Granted(target) = one.phase else {
@@ -47,7 +50,8 @@ pub fn leap_rule(t: &mut State, a: AgentNo) -> Result<Taken, Code>
 // The server learns where a landed agent is. With the map right again the lock is free.
 #[tactic(auto, unfolding(rules::specs::Steps::book_rule))]
 pub fn book_rule(t: &mut State, a: AgentNo) -> Result<Taken, Code>
-    ensures { reply_of t.new result ≡ book_rule t.old a }
+    ensures replies { reply_of t.new result ≡ book_rule t.old a }
+    ensures refusal { IfErr result IsRefusal }
 {
     let mut one = agent_at(t, a).ok_or(Code::NoAgent)?;
     if one.phase != Phase::Landed {

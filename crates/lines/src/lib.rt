@@ -1,9 +1,9 @@
 // A line taken apart: its word, and then its numbers.
 #![tactic(auto)]
 
-ghost use Rattle.std.specs.Prelude.{◌≡◌, [], ◌∷◌, MatchOption};
+ghost use Rattle.std.specs.Prelude.{◌≡◌, [], ◌∷◌, None, Some, MatchOption};
 ghost use Rattle.std.specs.Option.{option_map};
-ghost use Rattle.grammar.specs.Grammar.{Kind, numbers_of, said_by, line_among, line_of};
+ghost use Rattle.grammar.specs.Grammar.{Kind, after_word, numbers_of, said_by, line_among, line_of};
 ghost use Rattle.grammar.specs.LineParts.{NoneLeads, Leads, SaysAs, step_line, ask_kind, send_kind, agent_kinds, mail_kinds};
 
 use grammar::Line;
@@ -66,18 +66,31 @@ fn step_line(step: Option<Step>) -> Line
     step.map_or(Line::Bad, Line::Take)
 }
 
+// What stands in a text behind a word, where it begins with the word. The first byte is asked before the others, since at it nearly every
+// other word differs, and `strip_prefix` compares all of them.
+fn behind<'a>(text: &'a [u8], word: &[u8]) -> Option<&'a [u8]>
+    ensures { MatchOption result (after_word word.now text.now ≡ None) (λ rest. after_word word.now text.now ≡ Some rest.now) }
+{
+    if let (Some(first), Some(other)) = (text.first(), word.first()) {
+        if first != other {
+            return None;
+        }
+    }
+    text.strip_prefix(word)
+}
+
 // The lines that the network brings about messages. The kinds of line stand in three functions, each with the part of the grammar's list
 // that it promises; one function of all thirteen would be no plainer.
 fn read_mail_line(line: &[u8]) -> Line
     ensures { result ≡ line_among mail_kinds line.now }
 {
-    if let Some(rest) = line.strip_prefix(b"forward=") {
+    if let Some(rest) = behind(line, b"forward=") {
         return read_one(rest, |m| Line::Take(Step::Forward(MailNo(m))));
     }
-    if let Some(rest) = line.strip_prefix(b"hand=") {
+    if let Some(rest) = behind(line, b"hand=") {
         return read_one(rest, |m| Line::Take(Step::Hand(MailNo(m))));
     }
-    if let Some(rest) = line.strip_prefix(b"close=") {
+    if let Some(rest) = behind(line, b"close=") {
         return read_one(rest, |m| Line::Take(Step::Close(MailNo(m))));
     }
     Line::Bad
@@ -87,22 +100,22 @@ fn read_mail_line(line: &[u8]) -> Line
 fn read_agent_line(line: &[u8]) -> Line
     ensures { result ≡ line_among agent_kinds line.now }
 {
-    if let Some(rest) = line.strip_prefix(b"enrol=") {
+    if let Some(rest) = behind(line, b"enrol=") {
         return read_one(rest, |b| Line::Take(Step::Enrol(AgentNo(b))));
     }
-    if let Some(rest) = line.strip_prefix(b"greet=") {
+    if let Some(rest) = behind(line, b"greet=") {
         return read_one(rest, |b| Line::Take(Step::Greet(AgentNo(b))));
     }
-    if let Some(rest) = line.strip_prefix(b"grant=") {
+    if let Some(rest) = behind(line, b"grant=") {
         return read_one(rest, |a| Line::Take(Step::Grant(AgentNo(a))));
     }
-    if let Some(rest) = line.strip_prefix(b"leap=") {
+    if let Some(rest) = behind(line, b"leap=") {
         return read_one(rest, |a| Line::Take(Step::Leap(AgentNo(a))));
     }
-    if let Some(rest) = line.strip_prefix(b"book=") {
+    if let Some(rest) = behind(line, b"book=") {
         return read_one(rest, |a| Line::Take(Step::Book(AgentNo(a))));
     }
-    if let Some(rest) = line.strip_prefix(b"settle=") {
+    if let Some(rest) = behind(line, b"settle=") {
         return read_one(rest, |a| Line::Take(Step::Settle(AgentNo(a))));
     }
     read_mail_line(line)
@@ -112,16 +125,16 @@ fn read_agent_line(line: &[u8]) -> Line
 pub fn read_line(line: &[u8]) -> Line
     ensures { result ≡ line_of line.now }
 {
-    if let Some(rest) = line.strip_prefix(b"sites=") {
+    if let Some(rest) = behind(line, b"sites=") {
         return read_one(rest, Line::Opening);
     }
-    if let Some(rest) = line.strip_prefix(b"spawn=") {
+    if let Some(rest) = behind(line, b"spawn=") {
         return read_one(rest, |a| Line::Take(Step::Spawn(AgentNo(a))));
     }
-    if let Some(rest) = line.strip_prefix(b"ask=") {
+    if let Some(rest) = behind(line, b"ask=") {
         return step_line(read_ask(rest));
     }
-    if let Some(rest) = line.strip_prefix(b"send=") {
+    if let Some(rest) = behind(line, b"send=") {
         return step_line(read_send(rest));
     }
     read_agent_line(line)

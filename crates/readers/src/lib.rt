@@ -1,4 +1,5 @@
-// What a host reads of a table. Every number has an answer, and nothing is asked of the table: it may have come from anywhere.
+// What is read of a table by a number: an agent, a message, an entry of an inbox. Every number has an answer, and nothing is asked of the
+// table: it may have come from anywhere. A table that is owned and not lent reads its agents and messages itself (`Table::agent_at`).
 #![tactic(auto)]
 
 ghost use Rattle.std.specs.Prelude.{◌≡◌, slice_get, take};

@@ -1,20 +1,22 @@
 -- What each rule comes to once its tests have passed.
-use Rattle.std.proofs.Common.{◌≡◌, true, false, ltb}
+use Rattle.std.proofs.Common.{ℕ, suc, ◌≡◌, ◌∙◌, ◌≤◌, ◌<◌, arith, Some, None, true, false, ltb, eq-eqb, ne_eqb, le-leb}
+use Rattle.std.proofs.lemmas.Bool.{lt-leb}
 use Rattle.records.specs.declared.AgentNo.{AgentNo}
 use Rattle.records.specs.declared.SiteNo.{SiteNo}
 use Rattle.records.specs.declared.MailNo.{MailNo}
 use Rattle.records.specs.declared.Phase.TheVariants.{Free, Spawning, Enrolled, Asking, Granted, Landed, Booked}
 use Rattle.records.specs.declared.Status.TheVariants.{Out, Handed, Closed, Lost}
 use Rattle.records.specs.declared.Lock.TheVariants.{Unheld, ForMove, ForMail}
-use Rattle.records.specs.Limits.{most_agents}
+use Rattle.records.specs.declared.Code.TheVariants.{MessagesFull, Changed, Gap}
+use Rattle.records.specs.Limits.{most_agents, most_messages}
 use Rattle.records.specs.Numbers.{same_site}
-use Rattle.records.specs.Agents.{is_free, is_born, is_enrolled, is_asking, is_granted, is_landed, is_booked, peer_of, target_of, is_mapped, map_site, born_of, with_phase, moved_to, mapped_here}
+use Rattle.records.specs.Agents.{is_free, is_born, is_enrolled, is_asking, is_granted, is_landed, is_booked, peer_of, target_of, is_child, is_mapped, map_site, born_of, with_phase, moved_to, mapped_here}
 use Rattle.records.specs.Messages.{is_queued, is_out, is_handed, travels_to}
 use Rattle.records.specs.Locks.{is_unheld}
 use Rattle.rules.specs.declared.State.{State}
-use Rattle.rules.specs.Holding.{is_agent, is_site, is_message, agent_at, site_of, phase_of, map_of, status_of, lock_of, next_agent, with_agent, with_new_agent, with_lock, with_status, with_logged}
-use Rattle.rules.specs.Answers.{done}
-use Rattle.rules.specs.Steps.{to_phase, spawn_rule, ask_rule, enrol_rule, greet_rule, grant_rule, leap_rule, book_rule, settle_rule, addressee_of, forward_rule, hand_rule, close_rule}
+use Rattle.rules.specs.Holding.{is_agent, is_site, is_message, agent_at, message_at, site_of, phase_of, map_of, status_of, lock_of, next_agent, with_agent, with_new_agent, with_lock, with_status, with_new_message, with_logged}
+use Rattle.rules.specs.Answers.{done, refuse, repeated}
+use Rattle.rules.specs.Steps.{to_phase, spawn_rule, ask_rule, sent_by, new_message, take_new, find_sent, same_letter, retry, by_number, send_rule, enrol_rule, greet_rule, grant_rule, leap_rule, book_rule, settle_rule, addressee_of, forward_rule, hand_rule, close_rule}
 
 module _ (t : State) (a : AgentNo) (there : is_agent t a ≡ true) where
   pub spawn-done :
@@ -89,3 +91,67 @@ module _ (t : State) (m : MailNo) (there : is_message t m ≡ true) where
   pub close-done : is_handed (status_of t m) ≡ true → close_rule t m ≡ done (with_lock (with_status t m Closed) Unheld) 0
   unfolding close_rule
   close-done turn = rw (there, turn)
+
+-- send, from its tests down to a new message and to a retry
+module _ (t : State) (a : AgentNo) (n : ℕ) (b : AgentNo) (v : ℕ) where
+  pub send-on : is_agent t a ≡ true → is_agent t b ≡ true → is_child (phase_of t a) ≡ false → send_rule t a n b v ≡ by_number t a n b v
+  unfolding send_rule
+  send-on sender addressee up = rw (sender, addressee, up)
+
+  pub number-next : n ≡ suc (sent_by t a) → by_number t a n b v ≡ take_new t a n b v
+  unfolding by_number
+  number-next next = rw (eq-eqb n (suc (sent_by t a)) next)
+
+  pub number-used : 1 ≤ n → n ≤ sent_by t a → by_number t a n b v ≡ retry t a n b v
+  unfolding by_number
+  number-used some below =
+      rw (ne_eqb n (suc (sent_by t a)) (λ e. omega arith), le-leb 1 n some, le-leb n (sent_by t a) below)
+
+  pub number-zero : n ≡ 0 → by_number t a n b v ≡ refuse t Gap
+  unfolding by_number
+  number-zero none =
+      rw (ne_eqb n (suc (sent_by t a)) (λ e. omega arith), lt-leb 1 n (omega arith))
+
+  pub number-gap : suc (sent_by t a) < n → by_number t a n b v ≡ refuse t Gap
+  unfolding by_number
+  number-gap above =
+      rw (ne_eqb n (suc (sent_by t a)) (λ e. omega arith), le-leb 1 n (omega arith), lt-leb n (sent_by t a) (omega arith))
+
+  pub take-done : ltb t.messages most_messages ≡ true → take_new t a n b v ≡ done (with_new_message t (new_message a n b v)) t.messages
+  unfolding take_new
+  take-done room = rw room
+
+  pub take-full : ltb t.messages most_messages ≡ false → take_new t a n b v ≡ refuse t MessagesFull
+  unfolding take_new
+  take-full full = rw full
+
+  pub retry-missing : find_sent t a n ≡ None → retry t a n b v ≡ refuse t Changed
+  unfolding retry
+  retry-missing none = rw none
+
+  module _ (m : MailNo) (found : find_sent t a n ≡ Some m) where
+    pub retry-repeats : same_letter (message_at t m) b v ≡ true → retry t a n b v ≡ repeated t m
+    unfolding retry
+    retry-repeats same = rw (found, same)
+
+    pub retry-changed : same_letter (message_at t m) b v ≡ false → retry t a n b v ≡ refuse t Changed
+    unfolding retry
+    retry-changed other = rw (found, other)
+
+  module _ (sender : is_agent t a ≡ true) (addressee : is_agent t b ≡ true) (up : is_child (phase_of t a) ≡ false) where
+    -- the next number is a new message, which stands last and queued
+    pub send-done :
+        n ≡ suc (sent_by t a)
+        → ltb t.messages most_messages ≡ true
+        → send_rule t a n b v ≡ done (with_new_message t (new_message a n b v)) t.messages
+    send-done next room = send-on sender addressee up ∙ (number-next next ∙ take-done room)
+
+    -- a number that was taken, with the same addressee and value, is a repeat of that message
+    pub send-repeated :
+        1 ≤ n
+        → n ≤ sent_by t a
+        → (m : MailNo)
+        → find_sent t a n ≡ Some m
+        → same_letter (message_at t m) b v ≡ true
+        → send_rule t a n b v ≡ repeated t m
+    send-repeated some below m found same = send-on sender addressee up ∙ (number-used some below ∙ retry-repeats m found same)

@@ -14,7 +14,8 @@ pub struct Lines<'a> {
 
 // The lines of a text, from its first one on.
 pub fn lines_in(text: &[u8]) -> Lines<'_>
-    ensures { lines_left result ≡ lines_of text.now }
+    ensures lines { lines_left result ≡ lines_of text.now }
+    ensures rest { result.rest.now ≡ text.now }
 {
     Lines { rest: text }
 }
@@ -28,7 +29,8 @@ impl<'a> Iterator for Lines<'a> {
 
     // The first line, which is walked then.
     fn next(&mut self) -> Option<&'a [u8]> {
-        if self.rest.is_empty() {
+        let walked = self.rest.is_empty();
+        if walked {
             return None;
         }
         let line = first_line(self.rest);

@@ -2,7 +2,8 @@
 // an array reads as its filling.
 #![tactic(auto)]
 
-ghost use Rattle.std.specs.Prelude.{◌≡◌};
+ghost use Rattle.std.specs.Prelude.{◌≡◌, IfErr};
+ghost use Rattle.records.specs.Codes.{IsRefusal};
 ghost use Rattle.rules.specs.Answers.{reply_of};
 ghost use Rattle.rules.specs.Steps.{sent_by, take_new, find_sent, retry, by_number, send_rule};
 
@@ -15,7 +16,8 @@ use rules::{State, Taken};
 // The message that a numbers n, to b with the value v. Tests the two agents, and then goes by the number, which is the message's.
 #[tactic(auto, unfolding(rules::specs::Steps::send_rule))]
 pub fn send_rule(t: &mut State, a: AgentNo, n: u32, b: AgentNo, v: u32) -> Result<Taken, Code>
-    ensures { reply_of t.new result ≡ send_rule t.old a n b v }
+    ensures replies { reply_of t.new result ≡ send_rule t.old a n b v }
+    ensures refusal { IfErr result IsRefusal }
 {
     let one = agent_at(t, a).ok_or(Code::NoAgent)?;
     if b.0 >= t.agents {
@@ -39,7 +41,8 @@ pub fn send_rule(t: &mut State, a: AgentNo, n: u32, b: AgentNo, v: u32) -> Resul
 // The number after the last one is a new message, the numbers up to it are retries.
 #[tactic(auto, unfolding(rules::specs::Steps::by_number))]
 fn by_number(t: &mut State, new: Message) -> Result<Taken, Code>
-    ensures { reply_of t.new result ≡ by_number t.old new.sender new.number new.addressee new.value }
+    ensures replies { reply_of t.new result ≡ by_number t.old new.sender new.number new.addressee new.value }
+    ensures refusal { IfErr result IsRefusal }
 {
     if new.number == 0 {
         return Err(Code::Gap);
@@ -57,7 +60,8 @@ fn by_number(t: &mut State, new: Message) -> Result<Taken, Code>
 // Takes a message as the next one, queued.
 #[tactic(auto, unfolding(rules::specs::Steps::take_new))]
 fn take_new(t: &mut State, new: Message) -> Result<Taken, Code>
-    ensures { reply_of t.new result ≡ take_new t.old new.sender new.number new.addressee new.value }
+    ensures replies { reply_of t.new result ≡ take_new t.old new.sender new.number new.addressee new.value }
+    ensures refusal { IfErr result IsRefusal }
 {
     let m = t.messages;
     if m >= MOST_MESSAGES {
@@ -75,7 +79,8 @@ fn take_new(t: &mut State, new: Message) -> Result<Taken, Code>
 // A retry is the same message if it has the addressee and the value that were taken, queued still or long closed.
 #[tactic(auto, unfolding(rules::specs::Steps::retry))]
 fn retry(t: &State, new: Message) -> Result<Taken, Code>
-    ensures { reply_of t.now result ≡ retry t.now new.sender new.number new.addressee new.value }
+    ensures replies { reply_of t.now result ≡ retry t.now new.sender new.number new.addressee new.value }
+    ensures refusal { IfErr result IsRefusal }
 {
     let m = find_sent(t, new.sender, new.number).ok_or(Code::Changed)?;
     let taken = message_in(t, m);

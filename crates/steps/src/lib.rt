@@ -1,7 +1,8 @@
 // The one place where a step meets the soundness test and its rule: one match on the step, as `rule_of` has it.
 #![tactic(auto)]
 
-ghost use Rattle.std.specs.Prelude.{◌≡◌};
+ghost use Rattle.std.specs.Prelude.{◌≡◌, IfErr};
+ghost use Rattle.records.specs.Codes.{IsRefusal};
 ghost use Rattle.rules.specs.Answers.{reply_of};
 ghost use Rattle.rules.specs.Steps.{step_of};
 
@@ -19,7 +20,8 @@ use soundness::is_sound;
 #[tactic(auto, using(rules::proofs::Stepping::sound_log), unfolding(rules::specs::Steps::step_of, rules::specs::Steps::rule_of))]
 #[inline(never)]
 pub fn take(t: &mut State, step: Step) -> Result<Taken, Code>
-    ensures { reply_of t.new result ≡ step_of t.old step }
+    ensures replies { reply_of t.new result ≡ step_of t.old step }
+    ensures refusal { IfErr result IsRefusal }
 {
     if !is_sound(t) {
         return Err(Code::BadState);

@@ -1,14 +1,15 @@
 // The table as a host has it: the state that the rules speak of, behind a name of its own, with every step as a method.
 #![tactic(auto)]
 
-ghost use Rattle.std.specs.Prelude.{◌≡◌};
+ghost use Rattle.std.specs.Prelude.{◌≡◌, get_or};
 ghost use Rattle.rules.specs.Readers.{read_agent, read_message, read_inbox};
 ghost use Rattle.rules.specs.SoundTest.{sound_test};
 ghost use Rattle.table.specs.Face.{no_table, answer_of, open_table, step_table};
 ghost use Rattle.text.specs.Writing.{write_of};
 
 use parts::reply;
-use records::{Agent, AgentNo, Code, Item, MailNo, Message, SiteNo, limits};
+use records::agents::empty_agent;
+use records::{Agent, AgentNo, Code, Item, MailNo, Message, SiteNo, Status, limits};
 use rules::{Reply, State, Step};
 use steps::take;
 use text::Written;
@@ -38,6 +39,15 @@ impl From<Reply> for Answer {
             number: r.number,
         }
     }
+}
+
+// Reads an array at a place, and the filling past its end. It is not lent: where a method lends a part of its table to a reader, the
+// whole table is copied first, which takes several times as long as the reading (docs/BENCH.md).
+fn read_in<T: Copy, const N: usize>(xs: [T; N], i: u32, filling: T) -> T
+    ensures { result ≡ get_or xs i filling }
+{
+    let at = i as usize;
+    if at < N { xs[at] } else { filling }
 }
 
 impl Table {
@@ -170,14 +180,22 @@ impl Table {
     pub fn agent_at(self, a: AgentNo) -> Option<Agent>
         ensures { result ≡ read_agent self.state a }
     {
-        readers::agent_at(&self.state, a)
+        let one = read_in(self.state.agent, a.0, empty_agent());
+        (a.0 < self.state.agents).then_some(one)
     }
 
     // Reads the message m.
     pub fn message_at(self, m: MailNo) -> Option<Message>
         ensures { result ≡ read_message self.state m }
     {
-        readers::message_at(&self.state, m)
+        let one = Message {
+            sender: read_in(self.state.sender, m.0, AgentNo(0)),
+            number: read_in(self.state.number, m.0, 0),
+            addressee: read_in(self.state.addressee, m.0, AgentNo(0)),
+            value: read_in(self.state.value, m.0, 0),
+            status: read_in(self.state.status, m.0, Status::Queued),
+        };
+        (m.0 < self.state.messages).then_some(one)
     }
 
     // Reads the entry at a place of a's inbox, counted from 0 in the order of handing.

@@ -92,7 +92,7 @@ fn take_line<W: Write>(out: &mut W, t: &mut Table, line: &[u8]) -> io::Result<()
         Line::Take(step) => tell(out, t, t.step(step)),
         Line::Bad => match own_line(line) {
             Some(own) => take_own(out, t, own),
-            None => write!(out, ": {},0", u32::from(Code::BadLine)),
+            None => write!(out, ": {},{}", u32::from(Code::BadLine), 0),
         },
     }
 }

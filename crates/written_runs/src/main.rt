@@ -43,7 +43,7 @@ fn in_room<W: Write>(out: &mut W, t: Table, room: usize, shown: bool) -> io::Res
 fn rooms<W: Write>(out: &mut W, heading: &str, t: Table, length: usize) -> io::Result<()>
     requires { (1 ≤ length) × (length ≤ 39000) }
 {
-    writeln!(out, "-- {heading}")?;
+    out.write_all(heading.as_bytes())?;
     in_room(out, t, 0, false)?;
     in_room(out, t, length - 1, false)?;
     in_room(out, t, length, true)?;
@@ -54,17 +54,27 @@ fn rooms<W: Write>(out: &mut W, heading: &str, t: Table, length: usize) -> io::R
 fn main(rt: HostRuntime) -> io::Result<()> {
     let mut out = rt.stdout();
     let fresh = Table::open(3);
-    rooms(&mut out, "a fresh table of three sites", fresh.table, 66)?;
-    rooms(&mut out, "session S", tables::session(), 123)?;
-    rooms(&mut out, "the lock held for a move", tables::moving(), 220)?;
     rooms(
         &mut out,
-        "the lock held for a message",
+        "-- a fresh table of three sites\n",
+        fresh.table,
+        66,
+    )?;
+    rooms(&mut out, "-- session S\n", tables::session(), 123)?;
+    rooms(
+        &mut out,
+        "-- the lock held for a move\n",
+        tables::moving(),
+        220,
+    )?;
+    rooms(
+        &mut out,
+        "-- the lock held for a message\n",
         tables::mailing(),
         125,
     )?;
-    rooms(&mut out, "a full table", tables::full(), 28975)?;
-    writeln!(out, "-- no table, which is not sound")?;
+    rooms(&mut out, "-- a full table\n", tables::full(), 28975)?;
+    out.write_all(b"-- no table, which is not sound\n")?;
     in_room(&mut out, Table::none(), 0, false)?;
     in_room(&mut out, Table::none(), 9, false)
 }

@@ -15,7 +15,7 @@ none-left k ls few (inr (y, (e, g))) = e
 pub loop-k-init : goal.loop-k-init
 loop-k-init c =
     let zip = c.zip-k-items.ensures in
-    rw (c.into_iter-k-iterator.ensures.into_iter_gives, zip.first, zip.second, c.lines_in.ensures)
+    rw (c.into_iter-k-iterator.ensures.into_iter_gives, zip.first, zip.second, c.lines_in.ensures.lines)
     (omega (arith, lines-within c.args.input.now, c.requires), refl, refl)
 
 pub loop-k-preserved : goal.loop-k-preserved

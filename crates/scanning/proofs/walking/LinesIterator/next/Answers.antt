@@ -16,9 +16,9 @@ walks : (bs line : List ℕ) (n : ℕ) → (length bs == 0) ≡ false → line �
     → lines_of bs ≡ line ∷ lines_of (take (length bs - n) (drop n bs))
 walks bs line n h e f = rw (take_rest bs n, e, f) (lines-of-some bs (grind (arith, nat_tests)))
 
-pub returns-then-is_empty-clause-steps : goal.returns-then-is_empty-clause-steps
-returns-then-is_empty-clause-steps c =
-    let all = ended _ (sym c.is_empty.ensures ∙ c.if-is_empty.true) in
+pub returns-then-walked-clause-steps : goal.returns-then-walked-clause-steps
+returns-then-walked-clause-steps c =
+    let all = ended c.args.self.now.rest.now (search rules) in
     (all, all)
 
 pub slice_bounds-self-count : goal.slice_bounds-self-count
@@ -28,9 +28,9 @@ pub slice_bounds-self-start : goal.slice_bounds-self-start
 slice_bounds-self-start c = omega (arith, c.line_taken.ensures, taken-within c.args.self.now.rest.now)
 
 pub returns-clause-steps : goal.returns-clause-steps
-returns-clause-steps c = walks _ _ _ (sym c.is_empty.ensures ∙ c.if-is_empty.false) c.first_line-line.ensures c.line_taken.ensures
+returns-clause-steps c = walks _ _ _ (search rules) c.first_line-line.ensures c.line_taken.ensures
 
 pub returns-clause-goes : goal.returns-clause-goes
 returns-clause-goes c =
-    let on = walks _ _ _ (sym c.is_empty.ensures ∙ c.if-is_empty.false) c.first_line-line.ensures c.line_taken.ensures in
+    let on = walks _ _ _ (search rules) c.first_line-line.ensures c.line_taken.ensures in
     search (rules, on)
