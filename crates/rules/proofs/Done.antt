@@ -1,11 +1,11 @@
 -- What each rule comes to once its tests have passed.
-use Rattle.std.proofs.Common.{ℕ, suc, ◌≡◌, ◌∙◌, ◌≤◌, ◌<◌, arith, Some, None, true, false, ltb, eq-eqb, ne_eqb, le-leb}
+use Rattle.std.proofs.Common.{ℕ, suc, ◌≡◌, ◌∙◌, ◌≤◌, ◌<◌, arith, Some, None, true, false, set, ltb, eq-eqb, ne_eqb, le-leb}
 use Rattle.std.proofs.lemmas.Bool.{lt-leb}
 use Rattle.records.specs.declared.AgentNo.{AgentNo}
 use Rattle.records.specs.declared.SiteNo.{SiteNo}
 use Rattle.records.specs.declared.MailNo.{MailNo}
 use Rattle.records.specs.declared.Phase.TheVariants.{Free, Spawning, Enrolled, Asking, Granted, Landed, Booked}
-use Rattle.records.specs.declared.Status.TheVariants.{Out, Handed, Closed, Lost}
+use Rattle.records.specs.declared.Status.TheVariants.{Queued, Out, Handed, Closed, Lost}
 use Rattle.records.specs.declared.Lock.TheVariants.{Unheld, ForMove, ForMail}
 use Rattle.records.specs.declared.Code.TheVariants.{MessagesFull, Changed, Gap}
 use Rattle.records.specs.Limits.{most_agents, most_messages}
@@ -14,9 +14,9 @@ use Rattle.records.specs.Agents.{is_free, is_born, is_enrolled, is_asking, is_gr
 use Rattle.records.specs.Messages.{is_queued, is_out, is_handed, travels_to}
 use Rattle.records.specs.Locks.{is_unheld}
 use Rattle.rules.specs.declared.State.{State}
-use Rattle.rules.specs.Holding.{is_agent, is_site, is_message, agent_at, message_at, site_of, phase_of, map_of, status_of, lock_of, next_agent, with_agent, with_new_agent, with_lock, with_status, with_new_message, with_logged}
+use Rattle.rules.specs.Holding.{is_agent, is_site, is_message, agent_at, message_at, site_of, phase_of, map_of, status_of, lock_of, next_agent, with_agent, with_new_agent, with_lock, with_status, with_messages, with_logged}
 use Rattle.rules.specs.Answers.{done, refuse, repeated}
-use Rattle.rules.specs.Steps.{to_phase, spawn_rule, ask_rule, sent_by, new_message, take_new, find_sent, same_letter, retry, by_number, send_rule, enrol_rule, greet_rule, grant_rule, leap_rule, book_rule, settle_rule, addressee_of, forward_rule, hand_rule, close_rule}
+use Rattle.rules.specs.Steps.{to_phase, spawn_rule, ask_rule, sent_by, take_new, find_sent, same_letter, retry, by_number, send_rule, enrol_rule, greet_rule, grant_rule, leap_rule, book_rule, settle_rule, addressee_of, forward_rule, hand_rule, close_rule}
 
 module _ (t : State) (a : AgentNo) (there : is_agent t a ≡ true) where
   pub spawn-done :
@@ -117,7 +117,18 @@ module _ (t : State) (a : AgentNo) (n : ℕ) (b : AgentNo) (v : ℕ) where
   number-gap above =
       rw (ne_eqb n (suc (sent_by t a)) (λ e. omega arith), le-leb 1 n (omega arith), lt-leb n (sent_by t a) (omega arith))
 
-  pub take-done : ltb t.messages most_messages ≡ true → take_new t a n b v ≡ done (with_new_message t (new_message a n b v)) t.messages
+  -- the table with one more message, which stands last and queued
+  abbrev pub taken_in : State
+  taken_in =
+      with_messages t
+      (suc t.messages)
+      (set t.sender t.messages a)
+      (set t.number t.messages n)
+      (set t.addressee t.messages b)
+      (set t.value t.messages v)
+      (set t.status t.messages Queued)
+
+  pub take-done : ltb t.messages most_messages ≡ true → take_new t a n b v ≡ done taken_in t.messages
   unfolding take_new
   take-done room = rw room
 
@@ -139,11 +150,8 @@ module _ (t : State) (a : AgentNo) (n : ℕ) (b : AgentNo) (v : ℕ) where
     retry-changed other = rw (found, other)
 
   module _ (sender : is_agent t a ≡ true) (addressee : is_agent t b ≡ true) (up : is_child (phase_of t a) ≡ false) where
-    -- the next number is a new message, which stands last and queued
-    pub send-done :
-        n ≡ suc (sent_by t a)
-        → ltb t.messages most_messages ≡ true
-        → send_rule t a n b v ≡ done (with_new_message t (new_message a n b v)) t.messages
+    -- the next number is a new message
+    pub send-done : n ≡ suc (sent_by t a) → ltb t.messages most_messages ≡ true → send_rule t a n b v ≡ done taken_in t.messages
     send-done next room = send-on sender addressee up ∙ (number-next next ∙ take-done room)
 
     -- a number that was taken, with the same addressee and value, is a repeat of that message

@@ -1,8 +1,8 @@
 // The lines of a text, one after the other.
 ghost use Rattle.std.specs.Prelude.{◌≡◌};
-ghost use Rattle.std.specs.Iterator.{YieldsFirstRef, item_count};
+ghost use Rattle.std.specs.Iterator.{item_count};
 ghost use Rattle.grammar.specs.Lines.{lines_of};
-ghost use Rattle.scanning.specs.Walking.{lines_left};
+ghost use Rattle.scanning.specs.Walking.{lines_left, Walks};
 
 use crate::finding::{first_line, line_taken};
 
@@ -23,7 +23,7 @@ pub fn lines_in(text: &[u8]) -> Lines<'_>
 impl<'a> Iterator for Lines<'a> {
     type Item = &'a [u8];
 
-    ghost next_gives = { YieldsFirstRef lines_left };
+    ghost next_gives = { Walks };
 
     ghost remaining = { item_count lines_left };
 
@@ -34,7 +34,8 @@ impl<'a> Iterator for Lines<'a> {
             return None;
         }
         let line = first_line(self.rest);
-        self.rest = &self.rest[line_taken(self.rest)..];
+        let left = &self.rest[line_taken(self.rest)..];
+        self.rest = left;
         Some(line)
     }
 }

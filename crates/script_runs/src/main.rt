@@ -5,7 +5,7 @@ use script_io::{input_room, print};
 use std::io;
 use std::io::Write;
 
-// Prints a script's output under a heading, which is written at once: a write that fails leaves it out whole.
+// Prints a script's output under a heading, which goes out in one write.
 fn report<W: Write>(out: &mut W, heading: &str, script: &[u8]) -> io::Result<()> {
     out.write_all(heading.as_bytes())?;
     print(out, script)

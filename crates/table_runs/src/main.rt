@@ -92,6 +92,7 @@ fn take_line<W: Write>(out: &mut W, t: &mut Table, line: &[u8]) -> io::Result<()
         Line::Take(step) => tell(out, t, t.step(step)),
         Line::Bad => match own_line(line) {
             Some(own) => take_own(out, t, own),
+            // A write for each part, as an answer has.
             None => write!(out, ": {},{}", u32::from(Code::BadLine), 0),
         },
     }
